@@ -1,0 +1,219 @@
+-- What an unrefused cursor says of the step that led to it: which tests were passed, and what the step gave (`-is`).
+-- Assumes nothing.
+use mathlib.Core.Path.{_≡_, refl, sym, ap, _∙_}
+use mathlib.Core.List.{List}
+use mathlib.Core.Bool.{Bool, true, false, cond, _&&_, false≢true}
+use Prim.Native.Nat.{ℕ, suc, _+_, _*_, _-_, _/_, _≤_, _<_}
+use native.Mathlib.Omega.{arith}
+use native.Mathlib.Nat.{mul-le-mul-right, div-mul-le-self}
+use lib.ListN.{take, drop}
+use lib.Dec.{leb, eqb}
+use borrow.Author.Tests.{leb-true, eqb-true, eq-eqb}
+use Rattle.bytes_at.specs.Number.{uintOf}
+use Rattle.bytes_at.specs.Bytes.{bytes, sameBytes}
+use Rattle.bytes_at.specs.Steps.{_>>=_}
+use Rattle.aipsio.specs.declared.Cursor.{Cursor}
+use Rattle.aipsio.specs.declared.Value.{Value}
+use Rattle.aipsio.specs.declared.Text.{Text}
+use Rattle.aipsio.specs.Field.{latched, refusedAt, movedTo, leftIn, skipped, skippedEach, judged, settled, sizedAt, uintAt, rangedAt, agreed, textBefore, textAt, stringAt, nameAt}
+use Rattle.aipsio.specs.Object.{entered, opened, closed, passed, blockAt}
+use Rattle.aipsio.proofs.Kept.{Clean, Refused, clean-before, latched-keeps, passed-keeps, text-next, name-keeps, ranged-reads, agreed-keeps, _⨟_}
+use Rattle.aipsio.proofs.Sides.{settle-on, text-on, judge-on, skip-on, each-on, enter-on, close-on, pass-on}
+
+latched-clean : (c d : Cursor) → Clean (latched c d) → (Clean c) × (Clean d)
+latched-clean c d e =
+    let h : Clean c = clean-before (latched-keeps c d) e in
+    (h, rw (eq-eqb (c .refused) 0 h) at e)
+
+-- the side that refuses was not taken
+passed-test : (t : Bool) (x y : Cursor) → Refused y → Clean (cond t x y) → (t ≡ true) × (Clean x)
+passed-test true x y h e = (refl, e)
+passed-test false x y h e = absurd (h e)
+
+and-both : (a b : Bool) → a && b ≡ true → (a ≡ true) × (b ≡ true)
+and-both true b h = (refl, h)
+and-both false b h = absurd (false≢true h)
+
+not-zero : (n : ℕ) → suc n ≡ 0 → ⊥
+not-zero n e = omega arith
+
+-- n elements of so many bytes, no more than there is room for
+pub room-for : (l n size : ℕ) → n ≤ l / size → n * size ≤ l
+room-for l n size h = omega (arith, mul-le-mul-right size h, div-mul-le-self l size)
+
+-- the test that was passed
+module _ (c : Cursor) (from : ℕ) (ok : Bool) (n : ℕ) (e : Clean (judged c from ok (suc n))) where
+  pub judged-passed : (Clean c) × (ok ≡ true)
+  unfolding judged
+  judged-passed = let l = latched-clean c _ e in (l .0, passed-test ok c (refusedAt c from (suc n)) (not-zero n) (l .1) .0)
+
+  pub judged-is : judged c from ok (suc n) ≡ c
+  judged-is = sym (judge-on c (judged-passed .0) from ok (suc n) (judged-passed .1))
+
+-- a number of a range
+pub judged-within : (c : Cursor) (from v low high n : ℕ) → Clean (judged c from (leb low v && leb v high) (suc n)) → (low ≤ v) × (v ≤ high)
+judged-within c from v low high n e =
+    let t = and-both (leb low v) (leb v high) (judged-passed c from _ n e .1) in
+    (leb-true low v (t .0), leb-true v high (t .1))
+
+-- the field's bytes are there
+module _ (c : Cursor) (n : ℕ) (e : Clean (skipped c n)) where
+  pub skipped-fits : (Clean c) × (n ≤ leftIn c)
+  unfolding skipped
+  skipped-fits =
+      let l = latched-clean c _ e in
+      (l .0, leb-true n (leftIn c) (passed-test (leb n (leftIn c)) _ (refusedAt c (c .at) 1) (not-zero 0) (l .1) .0))
+
+  pub skipped-is : skipped c n ≡ movedTo c (c .at + n)
+  skipped-is = sym (skip-on c (skipped-fits .0) refl n (skipped-fits .1))
+
+-- the bytes of all n fields are there
+module _ (c : Cursor) (n size : ℕ) (e : Clean (skippedEach c n size)) where
+  each-room : (Clean c) × (n ≤ leftIn c / size)
+  unfolding skippedEach
+  each-room =
+      let l = latched-clean c _ e in
+      (l .0, leb-true n (leftIn c / size) (passed-test (leb n (leftIn c / size)) _ (refusedAt c _ 1) (not-zero 0) (l .1) .0))
+
+  pub each-fits : (Clean c) × (n * size ≤ leftIn c)
+  each-fits = (each-room .0, room-for (leftIn c) n size (each-room .1))
+
+  pub each-is : skippedEach c n size ≡ movedTo c (c .at + n * size)
+  each-is = sym (each-on c (each-room .0) refl n size (each-room .1))
+
+-- the object ends in its container, and not before its header
+module _ (c outer : Cursor) (len : ℕ) (e : Clean (entered c outer len)) where
+  pub entered-fits : (Clean c) × (len ≤ leftIn outer) × (c .at ≤ outer .at + len)
+  unfolding entered
+  entered-fits =
+      let l = latched-clean c _ e in
+      let f = passed-test (leb len (leftIn outer)) _ (refusedAt c (outer .at) 1) (not-zero 0) (l .1) in
+      let g = passed-test (leb (c .at) (outer .at + len)) _ (refusedAt c (outer .at) 7) (not-zero 6) (f .1) in
+      (l .0, leb-true len (leftIn outer) (f .0), leb-true (c .at) (outer .at + len) (g .0))
+
+  pub entered-is : entered c outer len ≡ record { at = c .at; end = outer .at + len; big = c .big; refused = 0 }
+  entered-is = sym (enter-on c (entered-fits .0) outer refl len (entered-fits .1) (entered-fits .2))
+
+-- the last field ends where the object does
+module _ (c outer : Cursor) where
+  pub closed-full : Clean (closed c outer) → (Clean c) × (c .at ≡ c .end)
+  unfolding closed
+  closed-full e =
+      let l = latched-clean c _ e in
+      (l .0, eqb-true (c .at) (c .end) (passed-test (eqb (c .at) (c .end)) _ (refusedAt c (outer .at) 7) (not-zero 6) (l .1) .0))
+
+  pub closed-is : Clean (closed c outer) → closed c outer ≡ record { at = c .at; end = outer .end; big = c .big; refused = 0 }
+  closed-is e = let f = closed-full e in sym (close-on c (f .0) outer (f .1))
+
+  pub passed-is : Clean (passed c outer) → passed c outer ≡ record { at = c .end; end = outer .end; big = c .big; refused = 0 }
+  passed-is e = sym (pass-on c (clean-before (passed-keeps c outer) e) outer)
+
+-- a number is the one in its bytes
+module _ (s : List ℕ) (c : Cursor) (width : ℕ) where
+  pub sized-is : Clean (sizedAt s c width .next) → sizedAt s c width ≡ record { value = uintOf (c .big) width s (c .at); next = movedTo c (c .at + width) }
+  unfolding sizedAt settled _>>=_
+  sized-is e = rw (← (skipped-is c width e)) (sym (settle-on _ e _))
+
+  pub sized-fits : Clean (sizedAt s c width .next) → (Clean c) × (width ≤ leftIn c)
+  unfolding sizedAt settled _>>=_
+  sized-fits e = skipped-fits c width e
+
+  module _ (low high n : ℕ) (e : Clean (rangedAt s c width low high (suc n) .next)) where
+    pub ranged-is : rangedAt s c width low high (suc n) ≡ sizedAt s c width
+    unfolding rangedAt settled _>>=_
+    ranged-is = sym (settle-on _ e _) ∙ rw (judged-is (sizedAt s c width .next) (c .at) _ n e)
+
+    sized-within : (low ≤ sizedAt s c width .value) × (sizedAt s c width .value ≤ high)
+    unfolding rangedAt settled _>>=_
+    sized-within = judged-within (sizedAt s c width .next) (c .at) (sizedAt s c width .value) low high n e
+
+    pub ranged-within : (low ≤ rangedAt s c width low high (suc n) .value) × (rangedAt s c width low high (suc n) .value ≤ high)
+    ranged-within = rw ranged-is sized-within
+
+pub uint-is : (s : List ℕ) (c : Cursor) → uintAt s c ≡ sizedAt s c 4
+unfolding uintAt sizedAt
+uint-is s c = refl
+
+pub agreed-is : (s : List ℕ) (c : Cursor) (n : ℕ) → Clean (agreed s c n) → agreed s c n ≡ movedTo c (c .at + 4)
+unfolding agreed _>>=_
+agreed-is s c n e =
+    let r = ranged-is s c 4 n n 5 e in
+    ap (λ (v : Value). v .next) (r ∙ sized-is s c 4 (rw r at e))
+
+-- a String's bytes are there
+module _ (s : List ℕ) (c : Cursor) where
+  pub text-is : Clean (textAt s c .next)
+      → textAt s c ≡ record { start = c .at + 4; len = uintOf (c .big) 4 s (c .at); next = movedTo c (c .at + (4 + uintOf (c .big) 4 s (c .at))) }
+  unfolding textAt _>>=_
+  text-is e =
+      let n = uintOf (c .big) 4 s (c .at) in
+      let d = skipped c (4 + n) in
+      let h : Clean d = rw (text-next d n) at e in
+      let p : c .at + (4 + n) - n ≡ c .at + 4 = omega arith in
+      sym (text-on d h n) ∙ rw (skipped-is c (4 + n) h, p)
+
+  -- textBefore gives such a String again
+  text-again : Clean (textAt s c .next) → textBefore (textAt s c .next) (textAt s c .len) ≡ textAt s c
+  unfolding textAt _>>=_
+  text-again e =
+      let n = uintOf (c .big) 4 s (c .at) in
+      let d = skipped c (4 + n) in
+      let h : Clean d = rw (text-next d n) at e in
+      ap (λ (t : Text). textBefore (t .next) (t .len)) (sym (text-on d h n))
+
+  module _ (low high : ℕ) (e : Clean (stringAt s c low high .next)) where
+    string-clean : Clean (judged (textAt s c .next) (c .at) (leb low (textAt s c .len) && leb (textAt s c .len) high) 4)
+    unfolding stringAt _>>=_
+    string-clean = rw text-next at e
+
+    pub string-is : stringAt s c low high ≡ textAt s c
+    unfolding stringAt _>>=_
+    string-is =
+        let t = textAt s c in
+        let p = judged-is (t .next) (c .at) _ 3 string-clean in
+        rw p (text-again (rw p at string-clean))
+
+    pub string-within : (low ≤ stringAt s c low high .len) × (stringAt s c low high .len ≤ high)
+    string-within = rw string-is (judged-within (textAt s c .next) (c .at) (textAt s c .len) low high 3 string-clean)
+
+  module _ (expected : List ℕ) (e : Clean (nameAt s c expected)) where
+    pub name-is : nameAt s c expected ≡ textAt s c .next
+    unfolding nameAt _>>=_
+    name-is = judged-is (textAt s c .next) (c .at) _ 1 e
+
+    pub name-same : sameBytes (take (textAt s c .len) (drop (textAt s c .start) s)) expected ≡ true
+    unfolding nameAt _>>=_
+    name-same = judged-passed (textAt s c .next) (c .at) _ 1 e .1
+
+-- an object, whose fields begin at o, in its container c
+pub record Inside (c o : Cursor) : Type 0 where
+  pub clean : Clean c
+  pub room : c .at < c .end
+  pub ends : o .at ≤ o .end
+  pub within : o .end ≤ c .end
+
+module _ (s : List ℕ) (c : Cursor) (expected : List ℕ) (low high : ℕ) (e : Clean (opened s c expected low high .next)) where
+  pub opened-inside : Inside c (opened s c expected low high .next)
+  unfolding opened settled _>>=_
+  opened-inside =
+      let len = uintAt s c in
+      let v = rangedAt s (nameAt s (len .next) expected) 4 low high 3 in
+      let f = entered-fits (v .next) c (len .value) e in
+      let h : Clean (uintAt s c .next) = clean-before (name-keeps s _ expected ⨟ ranged-reads s _ 4 low high 3 .keeps) (f .0) in
+      let g = sized-fits s c 4 (rw (uint-is s c) at h) in
+      rw (entered-is (v .next) c (len .value) e)
+      (record { clean = g .0; room = omega arith; ends = f .2; within = omega arith })
+
+-- the elements of a Block lie in its container
+pub block-inside : (s : List ℕ) (c : Cursor) (n size : ℕ) → Clean (blockAt s c n size .next) → blockAt s c n size .value + n * size ≤ c .end
+unfolding blockAt settled _>>=_
+block-inside s c n size e =
+    let o = opened s c (bytes "Block") 1 1 .next in
+    let k = agreed s o n in
+    let d = skippedEach k n size in
+    let f = closed-full d c e in
+    let g = each-fits k n size (f .0) in
+    let p : k .at + n * size ≡ k .end = rw (each-is k n size (f .0)) at (f .1) in
+    let q : k .end ≡ o .end = ap (λ (x : Cursor). x .end) (agreed-is s o n (g .0)) in
+    let i = opened-inside s c (bytes "Block") 1 1 (clean-before (agreed-keeps s o n) (g .0)) in
+    rw (eq-eqb (closed d c .refused) 0 e) (omega (arith, i .within))

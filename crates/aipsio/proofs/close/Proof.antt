@@ -1,0 +1,13 @@
+-- `aipsio::close` meets its contract: its branches are the definition's cases.
+use mathlib.Core.Path.{sym}
+use Rattle.aipsio.proofs.Kept.{closed-keeps}
+use Rattle.aipsio.proofs.Sides.{close-on, close-refused}
+use Rattle.aipsio.proofs.close.Statement.{statement}
+use Rattle.aipsio.proofs.close.Tie as tie
+
+pub close-spec : {M : Type 1} → statement M
+close-spec =
+    tie.close (tie.spec
+    (λ c. sym (closed-keeps _ _ .stays (c .if1 .taken)))
+    (λ c. close-on _ (c .before .if1 .left) _ (c .if2 .taken))
+    (λ c. close-refused _ (c .before .if1 .left) _ (c .if2 .left)))

@@ -1,0 +1,19 @@
+-- `aipsio::enter` meets its contract: its branches are the definition's cases.
+use mathlib.Core.Path.{sym}
+use borrow.Author.Needs.{needs}
+use Rattle.bytes_at.proofs.Stepped.{free}
+use Rattle.aipsio.proofs.Kept.{entered-keeps}
+use Rattle.aipsio.proofs.Sides.{enter-on, enter-short, enter-far}
+use Rattle.aipsio.proofs.enter.Statement.{statement}
+use Rattle.aipsio.proofs.enter.Tie as tie
+
+pub enter-spec : {M : Type 1} → statement M
+enter-spec =
+    tie.close (tie.spec
+    (λ c. sym (entered-keeps _ _ _ .stays (c .if1 .taken)))
+    free
+    (λ c. enter-far _ (c .before .before .if1 .left) _ (c .before .left .ensures) _ (c .if2 .taken))
+    (λ c. search needs)
+    (λ c. enter-short _ (c .before .before .before .if1 .left) _ (c .before .before .left .ensures) _ (c .before .if2 .left) (c .if3 .taken))
+    (λ c. search needs)
+    (λ c. enter-on _ (c .before .before .before .if1 .left) _ (c .before .before .left .ensures) _ (c .before .if2 .left) (c .if3 .left)))

@@ -1,0 +1,478 @@
+// AipsIO (Note 260, section 2). Fields are read through a cursor that goes by value and keeps its first refusal: a read
+// after a refusal leaves the cursor as it is and gives 0, and a refused read leaves the place where the failing field begins.
+ghost use mathlib.Core.Path.{_≡_};
+ghost use Prim.Native.Nat.{_<_, _≤_};
+ghost use Rattle.bytes_at.specs.Number.{bytesOf};
+ghost use Rattle.aipsio.specs.Field.{
+  leftIn,
+  skipped,
+  skippedEach,
+  judged,
+  settled,
+  uintAt,
+  sizedAt,
+  rangedAt,
+  numberAt,
+  versionAt,
+  codeAt,
+  agreed,
+  markAt,
+  flagAt,
+  textBefore,
+  textAt,
+  stringAt,
+  nameAt,
+};
+ghost use Rattle.aipsio.specs.Object.{
+  entered,
+  opened,
+  closed,
+  passed,
+  recordAt,
+  blockAt,
+  mapAt,
+  axisWidth,
+  ipositionAt,
+  axisInto,
+  axesAt,
+  shapeAt,
+};
+use bytes_at::Width;
+
+// Where the next field begins, where the enclosing object ends, the byte order, and the refusal number: 0 while there is
+// none. After a refusal `at` is where the failing field begins.
+pub struct Cursor {
+    pub at: usize,
+    pub end: usize,
+    pub big: bool,
+    pub refused: usize,
+}
+
+// A number that was read, 0 where the cursor is refused, and the cursor past it.
+pub struct Value {
+    pub value: usize,
+    pub next: Cursor,
+}
+
+// The bytes of a String, as a place in the file (zeros where the cursor is refused), and the cursor past it.
+pub struct Text {
+    pub start: usize,
+    pub len: usize,
+    pub next: Cursor,
+}
+
+// How many bytes the enclosing object has left.
+pub fn left(c: Cursor) -> usize
+    ensures { λ r. ⌜ r ≡ leftIn c ⌝ }
+{
+    bytes_at::minus(c.end, c.at)
+}
+
+// Past a field of n bytes; 1 where the enclosing object ends before.
+pub fn skip(c: Cursor, n: usize) -> Cursor
+    ensures { λ r. ⌜ r ≡ skipped c n ⌝ }
+{
+    let at = c.at;
+    let end = c.end;
+    let big = c.big;
+    let refused = c.refused;
+    if refused != 0 {
+        return c;
+    }
+    if left(c) < n {
+        return Cursor {
+            at: at,
+            end: end,
+            big: big,
+            refused: 1,
+        };
+    }
+    Cursor {
+        at: at + n,
+        end: end,
+        big: big,
+        refused: 0,
+    }
+}
+
+// Past n fields of `size` bytes each; 1 at the first that the enclosing object has no room for.
+pub fn skip_each(c: Cursor, n: usize, size: usize) -> Cursor
+    requires { ⌜ 0 < size ⌝ }
+    ensures { λ r. ⌜ r ≡ skippedEach c n size ⌝ }
+{
+    let at = c.at;
+    let end = c.end;
+    let big = c.big;
+    let refused = c.refused;
+    if refused != 0 {
+        return c;
+    }
+    let room = left(c) / size;
+    if room < n {
+        return Cursor {
+            at: at + room * size,
+            end: end,
+            big: big,
+            refused: 1,
+        };
+    }
+    Cursor {
+        at: at + n * size,
+        end: end,
+        big: big,
+        refused: 0,
+    }
+}
+
+// Refused with the number, at the field that begins at `from`, unless the test holds.
+pub fn judge(c: Cursor, from: usize, ok: bool, number: usize) -> Cursor
+    ensures { λ r. ⌜ r ≡ judged c from ok number ⌝ }
+{
+    let end = c.end;
+    let big = c.big;
+    let refused = c.refused;
+    if refused != 0 {
+        return c;
+    }
+    if ok {
+        return c;
+    }
+    Cursor {
+        at: from,
+        end: end,
+        big: big,
+        refused: number,
+    }
+}
+
+// The number, 0 where the cursor is refused.
+pub fn settle(value: usize, c: Cursor) -> Value
+    ensures { λ r. ⌜ r ≡ settled value c ⌝ }
+    ensures bounded { λ r. ⌜ r .value ≤ value ⌝ }
+{
+    let refused = c.refused;
+    if refused != 0 {
+        return Value { value: 0, next: c };
+    }
+    Value {
+        value: value,
+        next: c,
+    }
+}
+
+// A number of as many bytes as the width says.
+pub fn sized(s: &[u8], c: Cursor, width: Width) -> Value
+    ensures { λ r. ⌜ r ≡ sizedAt (now (s .entry)) c (bytesOf width) ⌝ }
+{
+    let v = bytes_at::number(s, c.at, c.big, width);
+    let d = skip(c, width.bytes());
+    settle(v, d)
+}
+
+// A uInt, or an Int as the uInt of the same bytes.
+pub fn uint(s: &[u8], c: Cursor) -> Value
+    ensures { λ r. ⌜ r ≡ uintAt (now (s .entry)) c ⌝ }
+    ensures bounded { λ r. ⌜ r .value < 4294967296 ⌝ }
+{
+    let v = bytes_at::word(s, c.at, c.big);
+    let d = skip(c, 4);
+    settle(v, d)
+}
+
+// A number of a range, refused with the number given outside it.
+pub fn ranged(s: &[u8], c: Cursor, width: Width, low: usize, high: usize, refusal: usize) -> Value
+    ensures { λ r. ⌜ r ≡ rangedAt (now (s .entry)) c (bytesOf width) low high refusal ⌝ }
+{
+    let n = sized(s, c, width);
+    let ok = bytes_at::within(n.value, low, high);
+    let d = judge(n.next, c.at, ok, refusal);
+    settle(n.value, d)
+}
+
+// A number of a range, else 4.
+pub fn number(s: &[u8], c: Cursor, width: Width, low: usize, high: usize) -> Value
+    ensures { λ r. ⌜ r ≡ numberAt (now (s .entry)) c (bytesOf width) low high ⌝ }
+    ensures bounded { λ r. ⌜ r .value ≤ high ⌝ }
+{
+    ranged(s, c, width, low, high, 4)
+}
+
+// A version of a range, else 3.
+pub fn version(s: &[u8], c: Cursor, low: usize, high: usize) -> Value
+    ensures { λ r. ⌜ r ≡ versionAt (now (s .entry)) c low high ⌝ }
+{
+    ranged(s, c, Width::Four, low, high, 3)
+}
+
+// A number that stands for one of a few things, else 5.
+pub fn code(s: &[u8], c: Cursor, low: usize, high: usize) -> Value
+    ensures { λ r. ⌜ r ≡ codeAt (now (s .entry)) c low high ⌝ }
+    ensures bounded { λ r. ⌜ r .value ≤ high ⌝ }
+{
+    ranged(s, c, Width::Four, low, high, 5)
+}
+
+// A count that was stated before, else 6.
+pub fn agree(s: &[u8], c: Cursor, expected: usize) -> Cursor
+    ensures { λ r. ⌜ r ≡ agreed (now (s .entry)) c expected ⌝ }
+{
+    let v = ranged(s, c, Width::Four, expected, expected, 6);
+    v.next
+}
+
+// The mark before an outermost object, else 2.
+pub fn mark(s: &[u8], c: Cursor) -> Cursor
+    ensures { λ r. ⌜ r ≡ markAt (now (s .entry)) c ⌝ }
+{
+    let v = ranged(s, c, Width::Four, 0xbebebebe, 0xbebebebe, 2);
+    v.next
+}
+
+// A Bool byte, 0 or 1, else 5.
+pub fn flag(s: &[u8], c: Cursor) -> Value
+    ensures { λ r. ⌜ r ≡ flagAt (now (s .entry)) c ⌝ }
+    ensures bounded { λ r. ⌜ r .value ≤ 1 ⌝ }
+{
+    ranged(s, c, Width::One, 0, 1, 5)
+}
+
+// The n bytes before the cursor, as a String's.
+fn text_before(c: Cursor, n: usize) -> Text
+    ensures { λ r. ⌜ r ≡ textBefore c n ⌝ }
+    ensures bounded { λ r. ⌜ r .len ≤ n ⌝ }
+{
+    let refused = c.refused;
+    if refused != 0 {
+        return Text {
+            start: 0,
+            len: 0,
+            next: c,
+        };
+    }
+    let start = bytes_at::minus(c.at, n);
+    Text {
+        start: start,
+        len: n,
+        next: c,
+    }
+}
+
+// A String: its length and its bytes are one field.
+pub fn any_string(s: &[u8], c: Cursor) -> Text
+    ensures { λ r. ⌜ r ≡ textAt (now (s .entry)) c ⌝ }
+    ensures bounded { λ r. ⌜ r .len < 4294967296 ⌝ }
+{
+    let n = bytes_at::word(s, c.at, c.big);
+    let d = skip(c, 4 + n);
+    text_before(d, n)
+}
+
+// A String whose length lies in a range, else 4.
+pub fn string(s: &[u8], c: Cursor, low: usize, high: usize) -> Text
+    ensures { λ r. ⌜ r ≡ stringAt (now (s .entry)) c low high ⌝ }
+    ensures bounded { λ r. ⌜ r .len ≤ high ⌝ }
+{
+    let t = any_string(s, c);
+    let ok = bytes_at::within(t.len, low, high);
+    let d = judge(t.next, c.at, ok, 4);
+    text_before(d, t.len)
+}
+
+// A String that has to be the name given, else 2.
+pub fn name(s: &[u8], c: Cursor, expected: &[u8]) -> Cursor
+    ensures { λ r. ⌜ r ≡ nameAt (now (s .entry)) c (now (expected .entry)) ⌝ }
+{
+    let t = any_string(s, c);
+    let ok = bytes_at::same(bytes_at::part(s, t.start, t.len), expected);
+    judge(t.next, c.at, ok, 2)
+}
+
+// Into an object of len bytes whose header begins at `outer` and ends at the cursor: 1 where it ends after its container,
+// 7 where it ends before its own header does, both at the header.
+pub fn enter(c: Cursor, outer: Cursor, len: usize) -> Cursor
+    ensures { λ r. ⌜ r ≡ entered c outer len ⌝ }
+{
+    let at = c.at;
+    let end = c.end;
+    let big = c.big;
+    let refused = c.refused;
+    let start = outer.at;
+    if refused != 0 {
+        return c;
+    }
+    if left(outer) < len {
+        return Cursor {
+            at: start,
+            end: end,
+            big: big,
+            refused: 1,
+        };
+    }
+    if start + len < at {
+        return Cursor {
+            at: start,
+            end: end,
+            big: big,
+            refused: 7,
+        };
+    }
+    Cursor {
+        at: at,
+        end: start + len,
+        big: big,
+        refused: 0,
+    }
+}
+
+// An object's header: its length, its name and its version, one of a range, and then its end against its container's.
+// Gives the version, and the cursor at the object's first field.
+pub fn open(s: &[u8], c: Cursor, expected: &[u8], low: usize, high: usize) -> Value
+    ensures { λ r. ⌜ r ≡ opened (now (s .entry)) c (now (expected .entry)) low high ⌝ }
+{
+    let len = uint(s, c);
+    let d = name(s, len.next, expected);
+    let v = version(s, d, low, high);
+    let e = enter(v.next, c, len.value);
+    settle(v.value, e)
+}
+
+// Out of an object whose last field is read: 7, at its header, where bytes are left over.
+pub fn close(c: Cursor, outer: Cursor) -> Cursor
+    ensures { λ r. ⌜ r ≡ closed c outer ⌝ }
+{
+    let at = c.at;
+    let end = c.end;
+    let big = c.big;
+    let refused = c.refused;
+    let start = outer.at;
+    let after = outer.end;
+    if refused != 0 {
+        return c;
+    }
+    if at == end {
+        return Cursor {
+            at: at,
+            end: after,
+            big: big,
+            refused: 0,
+        };
+    }
+    Cursor {
+        at: start,
+        end: end,
+        big: big,
+        refused: 7,
+    }
+}
+
+// Out of an object whose fields are not looked at.
+pub fn pass(c: Cursor, outer: Cursor) -> Cursor
+    ensures { λ r. ⌜ r ≡ passed c outer ⌝ }
+{
+    let end = c.end;
+    let big = c.big;
+    let refused = c.refused;
+    let after = outer.end;
+    if refused != 0 {
+        return c;
+    }
+    Cursor {
+        at: end,
+        end: after,
+        big: big,
+        refused: 0,
+    }
+}
+
+// A TableRecord, passed over by its length.
+pub fn record(s: &[u8], c: Cursor) -> Cursor
+    ensures { λ r. ⌜ r ≡ recordAt (now (s .entry)) c ⌝ }
+{
+    let o = open(s, c, b"TableRecord", 1, 1);
+    pass(o.next, c)
+}
+
+// A Block of n elements of `size` bytes each: where they start, and the cursor past it.
+pub fn block(s: &[u8], c: Cursor, n: usize, size: usize) -> Value
+    requires { ⌜ 0 < size ⌝ }
+    ensures { λ r. ⌜ r ≡ blockAt (now (s .entry)) c n size ⌝ }
+{
+    let o = open(s, c, b"Block", 1, 1);
+    let k = agree(s, o.next, n);
+    let e = skip_each(k, n, size);
+    let d = close(e, c);
+    settle(k.at, d)
+}
+
+// A SimpleOrderedMap of Int to Int. Its pairs are passed over.
+pub fn map(s: &[u8], c: Cursor) -> Cursor
+    ensures { λ r. ⌜ r ≡ mapAt (now (s .entry)) c ⌝ }
+{
+    let o = open(s, c, b"SimpleOrderedMap", 1, 1);
+    let default = uint(s, o.next);
+    let n = uint(s, default.next);
+    let increment = uint(s, n.next);
+    let e = skip_each(increment.next, n.value, 8);
+    close(e, c)
+}
+
+// An axis is an Int in version 1 of IPosition, an Int64 in version 2.
+fn axis_width(version: usize) -> Width
+    ensures { λ r. ⌜ r ≡ axisWidth version ⌝ }
+{
+    if version == 2 {
+        return Width::Eight;
+    }
+    Width::Four
+}
+
+// An IPosition whose count and axes are not judged.
+pub fn iposition(s: &[u8], c: Cursor) -> Cursor
+    ensures { λ r. ⌜ r ≡ ipositionAt (now (s .entry)) c ⌝ }
+{
+    let o = open(s, c, b"IPosition", 1, 2);
+    let n = uint(s, o.next);
+    let width = axis_width(o.value);
+    let e = skip_each(n.next, n.value, width.bytes());
+    close(e, c)
+}
+
+// One axis more: 1 to 1,048,576, and so is the product so far, else 4.
+fn add_axis(s: &[u8], product: Value, width: Width) -> Value
+    requires { ⌜ product .value ≤ 1048576 ⌝ }
+    ensures { λ r. ⌜ r ≡ axisInto (now (s .entry)) (bytesOf width) product ⌝ }
+    ensures bounded { λ r. ⌜ r .value ≤ 1048576 ⌝ }
+{
+    let axis = number(s, product.next, width, 1, 1048576);
+    let more = product.value * axis.value;
+    let d = judge(axis.next, product.next.at, more <= 1048576, 4);
+    settle(more, d)
+}
+
+// The product of n axes.
+fn axes(s: &[u8], c: Cursor, n: usize, width: Width) -> Value
+    ensures { λ r. ⌜ r ≡ axesAt (now (s .entry)) c n (bytesOf width) ⌝ }
+    ensures bounded { λ r. ⌜ r .value ≤ 1048576 ⌝ }
+{
+    let mut product = Value { value: 1, next: c };
+    let mut i = 0;
+    while i < n {
+        product = add_axis(s, product, width);
+        i += 1;
+    }
+    product
+}
+
+// The IPosition of a fixed shape of so many dimensions: 1 to 8, else 4, and the stated dimensionality, else 5.
+// Gives the product of its axes.
+pub fn shape(s: &[u8], c: Cursor, dimensions: usize) -> Value
+    ensures { λ r. ⌜ r ≡ shapeAt (now (s .entry)) c dimensions ⌝ }
+    ensures bounded { λ r. ⌜ r .value ≤ 1048576 ⌝ }
+{
+    let o = open(s, c, b"IPosition", 1, 2);
+    let n = number(s, o.next, Width::Four, 1, 8);
+    let k = judge(n.next, o.next.at, n.value == dimensions, 5);
+    let product = axes(s, k, n.value, axis_width(o.value));
+    let d = close(product.next, c);
+    settle(product.value, d)
+}

@@ -1,0 +1,11 @@
+-- Laws that proofs of this crate and of those above it cite.
+pub mod Bools
+pub mod Comparing
+pub mod Parts
+pub mod Numbers
+pub mod Loops
+pub mod Stepped
+pub mod Searched
+pub mod Cleared
+pub mod Copied
+pub mod Stages

@@ -1,0 +1,94 @@
+-- The number in n bytes, byte by byte: one law over the width, for each byte order. Assumes nothing.
+use mathlib.Core.Path.{_≡_, refl, sym, ap, _∙_}
+use mathlib.Core.List.{List, [], _∷_}
+use mathlib.Core.Bool.{Bool, true, false}
+use Prim.Native.Nat.{ℕ, zero, suc, _+_, _*_, _≤_, _<_}
+use native.Mathlib.Omega.{arith}
+use lib.ListN.{length, getD, drop, drop-of-length-le, length-drop}
+use lib.Seq.{drop-cons}
+use Rattle.bytes_at.specs.Number.{bigFrom, littleFrom, uintOf}
+
+-- the n bytes at place `at + k` and on, most significant byte first, after a
+abbrev pub bigAt : ℕ → ℕ → List ℕ → ℕ → ℕ → ℕ
+bigAt a zero s at k = a
+bigAt a (suc n) s at k = bigAt (a * 256 + getD s (at + k) 0) n s at (suc k)
+
+abbrev pub littleAt : ℕ → ℕ → ℕ → List ℕ → ℕ → ℕ → ℕ
+littleAt a unit zero s at k = a
+littleAt a unit (suc n) s at k = littleAt (a + getD s (at + k) 0 * unit) (unit * 256) n s at (suc k)
+
+big-is : (a n : ℕ) (s : List ℕ) (at k : ℕ) → at + k + n ≤ length s → bigFrom a n (drop (at + k) s) ≡ bigAt a n s at k
+unfolding bigFrom
+big-is a zero s at k h = refl
+big-is a (suc n) s at k h =
+    let e : suc (at + k) ≡ at + suc k = omega arith in
+    let l : at + k < length s = omega arith in
+    rw (drop-cons s (at + k) 0 l, e) (big-is (a * 256 + getD s (at + k) 0) n s at (suc k) (omega arith))
+
+little-is : (a unit n : ℕ) (s : List ℕ) (at k : ℕ) → at + k + n ≤ length s → littleFrom a unit n (drop (at + k) s) ≡ littleAt a unit n s at k
+unfolding littleFrom
+little-is a unit zero s at k h = refl
+little-is a unit (suc n) s at k h =
+    let e : suc (at + k) ≡ at + suc k = omega arith in
+    let l : at + k < length s = omega arith in
+    rw (drop-cons s (at + k) 0 l, e) (little-is (a + getD s (at + k) 0 * unit) (unit * 256) n s at (suc k) (omega arith))
+
+module _ (n : ℕ) (s : List ℕ) (at : ℕ) where
+  pub big-number : at + n ≤ length s → uintOf true n s at ≡ bigAt 0 n s at 0
+  unfolding uintOf
+  big-number h = let e : at + 0 ≡ at = omega arith in ap (λ (i : ℕ). bigFrom 0 n (drop i s)) (sym e) ∙ big-is 0 n s at 0 (omega arith)
+
+  pub little-number : at + n ≤ length s → uintOf false n s at ≡ littleAt 0 1 n s at 0
+  unfolding uintOf
+  little-number h = let e : at + 0 ≡ at = omega arith in ap (λ (i : ℕ). littleFrom 0 1 n (drop i s)) (sym e) ∙ little-is 0 1 n s at 0 (omega arith)
+
+-- fewer bytes than the width
+big-short : (a n : ℕ) (l : List ℕ) → length l < n → bigFrom a n l ≡ 0
+unfolding bigFrom
+big-short a zero l h = absurd (omega arith)
+big-short a (suc n) [] h = refl
+big-short a (suc n) (x ∷ l) h = big-short (a * 256 + x) n l (omega arith)
+
+little-short : (a unit n : ℕ) (l : List ℕ) → length l < n → littleFrom a unit n l ≡ 0
+unfolding littleFrom
+little-short a unit zero l h = absurd (omega arith)
+little-short a unit (suc n) [] h = refl
+little-short a unit (suc n) (x ∷ l) h = little-short (a + x * unit) (unit * 256) n l (omega arith)
+
+pub no-number : (big : Bool) (n : ℕ) (s : List ℕ) (at : ℕ) → length s < at + n → 0 < n → 0 ≡ uintOf big n s at
+unfolding uintOf
+no-number true n s at h p = sym (big-short 0 n (drop at s) (simp length-drop (omega arith)))
+no-number false n s at h p = sym (little-short 0 1 n (drop at s) (simp length-drop (omega arith)))
+
+-- The widths that the code reads.
+module _ (s : List ℕ) (at : ℕ) where
+  at-0 : getD s (at + 0) 0 ≡ getD s at 0
+  at-0 = let e : at + 0 ≡ at = omega arith in ap (λ (i : ℕ). getD s i 0) e
+
+  -- byte k of the second half of eight
+  at-4 : (k : ℕ) → getD s (at + 4 + k) 0 ≡ getD s (at + (4 + k)) 0
+  at-4 k = let e : at + 4 + k ≡ at + (4 + k) = omega arith in ap (λ (i : ℕ). getD s i 0) e
+
+  pub one : (big : Bool) {a : ℕ} → a ≡ getD s at 0 → at + 1 ≤ length s → a ≡ uintOf big 1 s at
+  one true e h = omega (arith, big-number 1 s at h, at-0)
+  one false e h = omega (arith, little-number 1 s at h, at-0)
+
+  pub two-big : {a b : ℕ} → a ≡ getD s at 0 → b ≡ getD s (at + 1) 0 → at + 2 ≤ length s → a * 256 + b ≡ uintOf true 2 s at
+  two-big p q h = omega (arith, big-number 2 s at h, at-0)
+
+  pub two-little : {a b : ℕ} → a ≡ getD s at 0 → b ≡ getD s (at + 1) 0 → at + 2 ≤ length s → b * 256 + a ≡ uintOf false 2 s at
+  two-little p q h = omega (arith, little-number 2 s at h, at-0)
+
+  pub four-big : {a b c d : ℕ} → a ≡ getD s at 0 → b ≡ getD s (at + 1) 0 → c ≡ getD s (at + 2) 0 → d ≡ getD s (at + 3) 0 → at + 4 ≤ length s
+      → a * 16777216 + b * 65536 + c * 256 + d ≡ uintOf true 4 s at
+  four-big p q r t h = omega (arith, big-number 4 s at h, at-0)
+
+  pub four-little : {a b c d : ℕ} → a ≡ getD s at 0 → b ≡ getD s (at + 1) 0 → c ≡ getD s (at + 2) 0 → d ≡ getD s (at + 3) 0 → at + 4 ≤ length s
+      → d * 16777216 + c * 65536 + b * 256 + a ≡ uintOf false 4 s at
+  four-little p q r t h = omega (arith, little-number 4 s at h, at-0)
+
+  pub eight-big : {a b : ℕ} → a ≡ uintOf true 4 s at → b ≡ uintOf true 4 s (at + 4) → at + 8 ≤ length s → a * 4294967296 + b ≡ uintOf true 8 s at
+  eight-big p q h = omega (arith, big-number 8 s at h, big-number 4 s at (omega arith), big-number 4 s (at + 4) (omega arith), at-4 0, at-4 1, at-4 2, at-4 3)
+
+  pub eight-little : {a b : ℕ} → a ≡ uintOf false 4 s at → b ≡ uintOf false 4 s (at + 4) → at + 8 ≤ length s → b * 4294967296 + a ≡ uintOf false 8 s at
+  eight-little p q h = omega (arith, little-number 8 s at h, little-number 4 s at (omega arith), little-number 4 s (at + 4) (omega arith), at-4 0, at-4 1, at-4 2, at-4 3)

@@ -1,0 +1,31 @@
+-- Numbers in bytes.
+use Prim.Native.Nat.{ℕ, zero, suc, _+_, _*_}
+use mathlib.Core.List.{List, [], _∷_}
+use mathlib.Core.Bool.{Bool, true, false}
+use lib.ListN.{drop}
+use Rattle.bytes_at.specs.declared.Width.{Width}
+use Rattle.bytes_at.specs.declared.Width.the-variants.{One, Two, Four, Eight}
+
+-- the number that n bytes at the head of a list add to a, most significant byte first; 0 where the list ends before
+unfoldable pub bigFrom : ℕ → ℕ → List ℕ → ℕ
+bigFrom a zero l = a
+bigFrom a (suc n) [] = 0
+bigFrom a (suc n) (x ∷ l) = bigFrom (a * 256 + x) n l
+
+-- the same, least significant byte first; `unit` is what a one in the next byte stands for
+unfoldable pub littleFrom : ℕ → ℕ → ℕ → List ℕ → ℕ
+littleFrom a unit zero l = a
+littleFrom a unit (suc n) [] = 0
+littleFrom a unit (suc n) (x ∷ l) = littleFrom (a + x * unit) (unit * 256) n l
+
+-- the number in the n bytes at a place, big endian or little endian; 0 where the bytes end before
+unfoldable pub uintOf : Bool → ℕ → List ℕ → ℕ → ℕ
+uintOf true n s at = bigFrom 0 n (drop at s)
+uintOf false n s at = littleFrom 0 1 n (drop at s)
+
+-- how many bytes a width is
+abbrev pub bytesOf : Width → ℕ
+bytesOf One = 1
+bytesOf Two = 2
+bytesOf Four = 4
+bytesOf Eight = 8

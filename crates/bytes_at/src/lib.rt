@@ -1,0 +1,197 @@
+// Bytes: the numbers that stand in them, their parts, comparing, clearing and copying.
+ghost use mathlib.Core.Path.{_≡_};
+ghost use mathlib.Core.Bool.{true, false, _&&_};
+ghost use Prim.Native.Nat.{_+_, _-_, _≤_, _<_};
+ghost use lib.Dec.{leb};
+ghost use lib.ListN.{length, take, drop, replicate};
+ghost use lib.Seq.{paste};
+ghost use Rattle.bytes_at.specs.Number.{uintOf, bytesOf};
+ghost use Rattle.bytes_at.specs.Bytes.{sameBytes};
+
+// How many bytes a number has.
+pub enum Width {
+    One,
+    Two,
+    Four,
+    Eight,
+}
+
+impl Width {
+    pub fn bytes(self) -> usize
+        ensures { λ r. ⌜ (r ≡ bytesOf self) × (r ≤ 8) ⌝ }
+    {
+        match self {
+            Width::One => 1,
+            Width::Two => 2,
+            Width::Four => 4,
+            Width::Eight => 8,
+        }
+    }
+}
+
+fn wide(x: u8) -> usize
+    ensures { λ r. ⌜ (r ≡ x) × (r < 256) ⌝ }
+{
+    x as usize
+}
+
+// The number in the byte at a place; 0 where the bytes end before.
+pub fn byte(s: &[u8], at: usize, big: bool) -> usize
+    ensures { λ r. ⌜ r ≡ uintOf big 1 (now (s .entry)) at ⌝ }
+    ensures bounded { λ r. ⌜ r < 256 ⌝ }
+{
+    if s.len() <= at {
+        return 0;
+    }
+    wide(s[at])
+}
+
+// The number in two bytes; 0 where the bytes end before.
+pub fn short(s: &[u8], at: usize, big: bool) -> usize
+    ensures { λ r. ⌜ r ≡ uintOf big 2 (now (s .entry)) at ⌝ }
+    ensures bounded { λ r. ⌜ r < 65536 ⌝ }
+{
+    if s.len() < 2 {
+        return 0;
+    }
+    if s.len() - 2 < at {
+        return 0;
+    }
+    let a = wide(s[at]);
+    let b = wide(s[at + 1]);
+    if big {
+        return a * 256 + b;
+    }
+    b * 256 + a
+}
+
+// The number in four bytes; 0 where the bytes end before. An Int of -1 is 4,294,967,295.
+pub fn word(s: &[u8], at: usize, big: bool) -> usize
+    ensures { λ r. ⌜ r ≡ uintOf big 4 (now (s .entry)) at ⌝ }
+    ensures bounded { λ r. ⌜ r < 4294967296 ⌝ }
+{
+    if s.len() < 4 {
+        return 0;
+    }
+    if s.len() - 4 < at {
+        return 0;
+    }
+    let a = wide(s[at]);
+    let b = wide(s[at + 1]);
+    let c = wide(s[at + 2]);
+    let d = wide(s[at + 3]);
+    if big {
+        return a * 16777216 + b * 65536 + c * 256 + d;
+    }
+    d * 16777216 + c * 65536 + b * 256 + a
+}
+
+// The number in eight bytes; 0 where the bytes end before.
+pub fn long(s: &[u8], at: usize, big: bool) -> usize
+    ensures { λ r. ⌜ r ≡ uintOf big 8 (now (s .entry)) at ⌝ }
+{
+    if s.len() < 8 {
+        return 0;
+    }
+    if s.len() - 8 < at {
+        return 0;
+    }
+    let a = word(s, at, big);
+    let b = word(s, at + 4, big);
+    if big {
+        return a * 4294967296 + b;
+    }
+    b * 4294967296 + a
+}
+
+// The number in as many bytes as the width says; 0 where the bytes end before.
+pub fn number(s: &[u8], at: usize, big: bool, width: Width) -> usize
+    ensures { λ r. ⌜ r ≡ uintOf big (bytesOf width) (now (s .entry)) at ⌝ }
+{
+    match width {
+        Width::One => byte(s, at, big),
+        Width::Two => short(s, at, big),
+        Width::Four => word(s, at, big),
+        Width::Eight => long(s, at, big),
+    }
+}
+
+// The difference, 0 where the second number is the larger one.
+pub fn minus(a: usize, b: usize) -> usize
+    ensures { λ r. ⌜ r ≡ a - b ⌝ }
+{
+    if b <= a {
+        return a - b;
+    }
+    0
+}
+
+// Whether a number lies in a range.
+pub fn within(x: usize, low: usize, high: usize) -> bool
+    ensures { λ r. ⌜ r ≡ leb low x && leb x high ⌝ }
+{
+    low <= x && x <= high
+}
+
+// Whether two slices hold the same bytes.
+pub fn same(a: &[u8], b: &[u8]) -> bool
+    ensures { λ r. ⌜ r ≡ sameBytes (now (a .entry)) (now (b .entry)) ⌝ }
+{
+    if a.len() != b.len() {
+        return false;
+    }
+    let mut i = 0;
+    while i < a.len() {
+        if a[i] != b[i] {
+            return false;
+        }
+        i += 1;
+    }
+    true
+}
+
+// As many of the len bytes from start as there are.
+pub fn part(s: &[u8], start: usize, len: usize) -> &[u8]
+    ensures { λ r. ⌜ now r ≡ take len (drop start (now (s .entry))) ⌝ }
+{
+    if s.len() <= start {
+        return &s[..0];
+    }
+    if s.len() - start < len {
+        return &s[start..];
+    }
+    &s[start..start + len]
+}
+
+// The bytes from start on.
+pub fn rest(s: &[u8], start: usize) -> &[u8]
+    ensures { λ r. ⌜ now r ≡ drop start (now (s .entry)) ⌝ }
+{
+    if s.len() <= start {
+        return &s[..0];
+    }
+    &s[start..]
+}
+
+// Sets every byte to 0.
+pub fn clear(s: &mut [u8])
+    ensures { λ _. ⌜ now (s .exit) ≡ replicate (length (now (s .entry))) 0 ⌝ }
+{
+    let mut i = 0;
+    while i < s.len() {
+        s[i] = 0;
+        i += 1;
+    }
+}
+
+// Copies n bytes of src from `from` into dst at `at`.
+pub fn copy(src: &[u8], from: usize, n: usize, dst: &mut [u8], at: usize)
+    requires { ⌜ (from + n ≤ length (now src)) × (at + n ≤ length (now dst)) ⌝ }
+    ensures { λ _. ⌜ now (dst .exit) ≡ paste (now (dst .entry)) at (drop from (now (src .entry))) n ⌝ }
+{
+    let mut i = 0;
+    while i < n {
+        dst[at + i] = src[from + i];
+        i += 1;
+    }
+}

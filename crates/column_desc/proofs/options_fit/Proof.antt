@@ -1,0 +1,12 @@
+-- `column_desc::options_fit` meets its contract: a case for each way out.
+use borrow.Author.Tests.{eq-eqb, ne-eqb}
+use Rattle.column_desc.proofs.options_fit.Statement.{statement}
+use Rattle.column_desc.proofs.options_fit.Tie as tie
+
+pub options-fit-spec : {M : Type 1} → statement M
+options-fit-spec =
+    tie.close
+    (tie.spec
+    (λ c. rw (c .before .if1 .taken, eq-eqb _ _ (c .if2 .taken)))
+    (λ c. rw (c .before .if1 .taken, ne-eqb _ _ (c .if2 .left)))
+    (λ c. rw (c .if1 .left)))

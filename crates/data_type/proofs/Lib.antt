@@ -1,0 +1,7 @@
+-- Laws that proofs of this crate and of those above it cite.
+pub mod Cases
+pub mod Table
+pub mod Names
+pub mod Place
+pub mod Bits
+pub mod Facts
