@@ -1,0 +1,23 @@
+-- `c_api::hv_column_by_name` meets its contract: its calls compose as the definition says.
+use borrow.Author.Needs.{needs}
+use Rattle.bytes_at.proofs.Stepped.{free}
+use Rattle.c_api.proofs.hv_column_by_name.Statement.{statement}
+use Rattle.c_api.proofs.hv_column_by_name.Tie as tie
+
+returns : tie.Need-returns
+returns c = (
+  rw (← (c .before .before .before .before .before .before .before .column-by-name .ensures), ← (c .before .before .before .before .before .before .position-refusal .ensures), ← (c .before .before .before .before .before .position-number .ensures)) (c .before .before .answer .ensures .0),
+  rw (← (c .before .before .before .before .before .before .before .column-by-name .ensures), ← (c .before .before .before .before .before .position-number .ensures)) (c .before .before .answer .ensures .1),
+)
+
+pub hv-column-by-name-spec : {M : Type 1} → statement M
+hv-column-by-name-spec =
+    tie.close
+    (tie.spec
+    free
+    free
+    free
+    (λ c. search needs)
+    free
+    (λ c. search needs)
+    returns)

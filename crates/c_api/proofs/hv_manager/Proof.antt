@@ -1,0 +1,26 @@
+-- `c_api::hv_manager` meets its contract: its calls compose as the definition says.
+use borrow.Author.Needs.{needs}
+use Rattle.bytes_at.proofs.Stepped.{free}
+use Rattle.c_api.proofs.hv_manager.Statement.{statement}
+use Rattle.c_api.proofs.hv_manager.Tie as tie
+
+returns : tie.Need-returns
+returns c = (
+  rw (← (c .before .before .before .before .before .before .before .before .before .before .before .describe .ensures .0), ← (c .before .before .before .before .before .before .before .before .before .pick-manager .ensures), ← (c .before .before .before .before .before .before .before .before .refusal .ensures), ← (c .before .before .before .before .before .before .before .kind-number .ensures)) (c .before .before .answer .ensures .0),
+  rw (← (c .before .before .before .before .before .before .before .before .before .before .before .describe .ensures .0), ← (c .before .before .before .before .before .before .before .before .before .pick-manager .ensures), ← (c .before .before .before .before .before .before .before .kind-number .ensures)) (c .before .before .answer .ensures .1),
+)
+
+pub hv-manager-spec : {M : Type 1} → statement M
+hv-manager-spec =
+    tie.close
+    (tie.spec
+    free
+    (λ c κs. search needs)
+    free
+    free
+    (λ c. search needs)
+    (λ c. search needs)
+    (λ c. search needs)
+    free
+    (λ c. search needs)
+    returns)

@@ -1,0 +1,81 @@
+-- What the functions for C give and write.
+use Prim.Native.Nat.{ℕ}
+use mathlib.Core.List.{List, [], _∷_}
+use mathlib.Core.Bool.{Bool, true, false, cond}
+use lib.ListN.{length, getD}
+use lib.Seq.{paste}
+use lib.Dec.{eqb, ltb}
+use Rattle.column_desc.specs.declared.Column.{Column}
+use Rattle.column_desc.specs.ColumnDesc.{blank}
+use Rattle.column_set.specs.declared.Binding.{Binding}
+use Rattle.column_set.specs.declared.Manager.{Manager}
+use Rattle.column_set.specs.declared.Kind.{Kind}
+use Rattle.column_set.specs.declared.Kind.the-variants.{Other, Standard, Incremental}
+use Rattle.column_set.specs.ColumnSet.{noBinding, noManager}
+use Rattle.table.specs.declared.Description.{Description}
+use Rattle.table.specs.declared.Position.{Position}
+use Rattle.table.specs.declared.Position.the-variants.{At, Refused}
+
+-- the number given: 255 where `out` is too short for the values
+unfoldable pub orShort : List ℕ → List ℕ → ℕ → ℕ
+orShort values out number = cond (ltb (length out) (length values)) 255 number
+
+-- `out` afterwards: the values written over its first numbers, or nothing written where it is too short
+unfoldable pub written : List ℕ → List ℕ → List ℕ
+written values out = cond (ltb (length out) (length values)) out (paste out 0 values (length values))
+
+abbrev pub flagOf : Bool → ℕ
+flagOf true = 1
+flagOf false = 0
+
+abbrev pub kindNumber : Kind → ℕ
+kindNumber Other = 0
+kindNumber Standard = 1
+kindNumber Incremental = 2
+
+-- the refusal so far, or 8 where there is no such position
+unfoldable pub missing : ℕ → ℕ → ℕ → ℕ
+missing refused position count = cond (eqb refused 0) (cond (ltb position count) 0 8) refused
+
+abbrev pub summaryOf : Description → List ℕ
+summaryOf d = d .rows ∷ flagOf (d .big) ∷ d .«column_count» ∷ d .«manager_count» ∷ []
+
+abbrev pub columnRefusal : Description → ℕ → ℕ
+columnRefusal d position = missing (d .refused) position (d .«column_count»)
+
+abbrev pub managerRefusal : Description → ℕ → ℕ
+managerRefusal d index = missing (d .refused) index (d .«manager_count»)
+
+unfoldable pub pickedColumn : List Column → ℕ → ℕ → Column
+pickedColumn columns count position = cond (ltb position count) (getD columns position blank) blank
+
+unfoldable pub pickedBinding : List Binding → ℕ → ℕ → Binding
+pickedBinding bindings count position = cond (ltb position count) (getD bindings position noBinding) noBinding
+
+unfoldable pub pickedManager : List Manager → ℕ → ℕ → Manager
+pickedManager managers count position = cond (ltb position count) (getD managers position noManager) noManager
+
+abbrev numbersOf : Column → Binding → List ℕ
+numbersOf c b =
+    c .start ∷ c .len ∷ c .datatype .number ∷ flagOf (c .array) ∷ c .options ∷ c .elements ∷ c .maximum ∷ c .bits
+    ∷ b .sequence ∷ b .set ∷ b .offset ∷ []
+
+-- name start and length, data type, array, options, elements, maximum, cell bits, sequence number, set, offset
+abbrev pub columnNumbers : Description → ℕ → List ℕ
+columnNumbers d position =
+    numbersOf (pickedColumn (d .columns) (d .«column_count») position) (pickedBinding (d .bindings) (d .«column_count») position)
+
+abbrev oneManager : Manager → List ℕ
+oneManager m = m .number ∷ kindNumber (m .kind) ∷ m .start ∷ m .len ∷ []
+
+-- sequence number, kind, name start and length
+abbrev pub managerNumbers : Description → ℕ → List ℕ
+managerNumbers d index = oneManager (pickedManager (d .managers) (d .«manager_count») index)
+
+abbrev pub positionRefusal : Position → ℕ
+positionRefusal (At k) = 0
+positionRefusal (Refused n) = n
+
+abbrev pub positionNumber : Position → ℕ
+positionNumber (At k) = k
+positionNumber (Refused n) = 0

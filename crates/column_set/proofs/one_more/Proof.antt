@@ -1,0 +1,18 @@
+-- `column_set::one_more` meets its contract: a store past the end changes nothing.
+use mathlib.Core.Path.{sym}
+use native.Mathlib.Omega.{arith}
+use borrow.Author.Needs.{needs}
+use lib.Seq.{set-out}
+use Rattle.column_set.proofs.one_more.Statement.{statement}
+use Rattle.column_set.proofs.one_more.Tie as tie
+
+pub one-more-spec : {M : Type 1} → statement M
+one-more-spec =
+    tie.close (tie.spec
+    (λ c. search needs)
+    (λ c. search needs)
+    (λ c. omega (arith, c .before .pre (c .before .args .k)))
+    (λ c. search needs)
+    (λ c. search needs)
+    (λ c. search needs)
+    (λ c. sym (set-out _ _ _ (omega arith))))

@@ -1,0 +1,416 @@
+// The data managers of a table and the binding of its columns to them (document 01, "table.dat"; Note 260, 3.1.2: ColumnSet).
+ghost use mathlib.Core.Path.{_≡_};
+ghost use Prim.Native.Nat.{ℕ, _+_, _≤_, _<_};
+ghost use mathlib.Core.Bool.{false};
+ghost use lib.ListN.{getD, set};
+ghost use Rattle.column_set.specs.ColumnSet.{
+  kindOf,
+  isOurs,
+  headAt,
+  firstNumber,
+  isNew,
+  noManager,
+  managersAt,
+  sequenceAt,
+  ownShapeAt,
+  noOwner,
+  ownersAt,
+  lengthFits,
+  infosAt,
+  noBinding,
+  bindingOf,
+  bindingsAt,
+};
+use aipsio::Cursor;
+use bytes_at::Width;
+
+// A manager's kind is its exact name.
+pub enum Kind {
+    Other,
+    Standard,
+    Incremental,
+}
+
+// A data manager: its name as a part of table.dat, its sequence number and its kind, and whether that is one of the two
+// kinds whose files are read.
+pub struct Manager {
+    pub start: usize,
+    pub number: u32,
+    pub len: u16,
+    pub kind: Kind,
+    pub ours: bool,
+}
+
+// Where a column is kept: its manager's sequence number and, of the two kinds, what DMInfo gives for it.
+pub struct Binding {
+    pub sequence: u32,
+    pub set: u32,
+    pub offset: u32,
+}
+
+// The highest sequence number and the number of managers, and the cursor past them.
+pub struct Head {
+    pub highest: usize,
+    pub count: usize,
+    pub next: Cursor,
+}
+
+// Managers in stored order, their sequence numbers, which of them are of the two kinds, and the cursor past them.
+pub struct Managers {
+    pub managers: [Manager; 16],
+    pub numbers: [usize; 16],
+    pub ours: [bool; 16],
+    pub next: Cursor,
+}
+
+// A column's sequence number, whose field begins at `from`.
+pub struct Sequence {
+    pub value: usize,
+    pub from: usize,
+    pub next: Cursor,
+}
+
+// A column's sequence number, the position of the manager that has it, and how many earlier columns that manager has.
+pub struct Owner {
+    pub sequence: u32,
+    pub manager: u32,
+    pub rank: u32,
+}
+
+// The owners of the columns in stored order, how many columns each manager has, and the cursor past ColumnInfo.
+pub struct Owners {
+    pub owners: [Owner; 64],
+    pub counts: [usize; 16],
+    pub next: Cursor,
+}
+
+// Where each manager's DMInfo begins, past its length, and the cursor past all of them.
+pub struct Infos {
+    pub starts: [usize; 16],
+    pub next: Cursor,
+}
+
+pub fn kind_of(name: &[u8]) -> Kind
+    ensures { λ r. ⌜ r ≡ kindOf (now (name .entry)) ⌝ }
+{
+    if bytes_at::same(name, b"StandardStMan") {
+        return Kind::Standard;
+    }
+    if bytes_at::same(name, b"IncrementalStMan") {
+        return Kind::Incremental;
+    }
+    Kind::Other
+}
+
+fn is_ours(kind: Kind) -> bool
+    ensures { λ r. ⌜ r ≡ isOurs kind ⌝ }
+{
+    match kind {
+        Kind::Other => false,
+        Kind::Standard => true,
+        Kind::Incremental => true,
+    }
+}
+
+// Version -2, the row count, which is the table's (else 6), the highest sequence number, and the number of managers.
+pub fn read_head(s: &[u8], c: Cursor, rows: usize) -> Head
+    ensures { λ r. ⌜ r ≡ headAt (now (s .entry)) c rows ⌝ }
+    ensures bounded { λ r. ⌜ r .count ≤ 16 ⌝ }
+{
+    let v = aipsio::version(s, c, 4294967294, 4294967294);
+    let r = aipsio::number(s, v.next, Width::Four, 0, 2147483647);
+    let k = aipsio::judge(r.next, v.next.at, r.value == rows, 6);
+    let highest = aipsio::uint(s, k);
+    let n = aipsio::number(s, highest.next, Width::Four, 1, 16);
+    let next = n.next;
+    Head {
+        highest: highest.value,
+        count: n.value,
+        next: next,
+    }
+}
+
+// The first of n numbers that is the number given, or n.
+fn first_number(numbers: &[usize; 16], n: usize, number: usize) -> usize
+    requires { ⌜ n ≤ 16 ⌝ }
+    ensures { λ r. ⌜ r ≡ firstNumber (now (numbers .entry)) n number ⌝ }
+    ensures bounded { λ r. ⌜ r ≤ n ⌝ }
+{
+    let mut i = 0;
+    while i < n {
+        if numbers[i] == number {
+            return i;
+        }
+        i += 1;
+    }
+    i
+}
+
+// Whether a manager's number is its own, and not above the highest.
+fn is_new(first: usize, i: usize, number: usize, highest: usize) -> bool
+    ensures { λ r. ⌜ r ≡ isNew first i number highest ⌝ }
+{
+    if first == i {
+        return number <= highest;
+    }
+    false
+}
+
+pub fn no_manager() -> Manager
+    ensures { λ r. ⌜ r ≡ noManager ⌝ }
+{
+    Manager {
+        start: 0,
+        number: 0,
+        len: 0,
+        kind: Kind::Other,
+        ours: false,
+    }
+}
+
+// n managers. A sequence number that an earlier manager has, or above the highest: 6.
+pub fn read_managers(s: &[u8], c: Cursor, n: usize, highest: usize) -> Managers
+    requires { ⌜ n ≤ 16 ⌝ }
+    ensures { λ r. ⌜ r ≡ managersAt (now (s .entry)) c n highest ⌝ }
+{
+    let none = no_manager();
+    let mut managers = [none; 16];
+    let mut numbers = [0usize; 16];
+    let mut ours = [false; 16];
+    let mut next = c;
+    let mut i = 0;
+    while i < n {
+        let name = aipsio::string(s, next, 0, 4096);
+        let number = aipsio::uint(s, name.next);
+        let k = first_number(&numbers, i, number.value);
+        let ok = is_new(k, i, number.value, highest);
+        let d = aipsio::judge(number.next, name.next.at, ok, 6);
+        let kind = kind_of(bytes_at::part(s, name.start, name.len));
+        let one = is_ours(kind);
+        managers[i] = Manager {
+            start: name.start,
+            number: number.value as u32,
+            len: name.len as u16,
+            kind: kind,
+            ours: one,
+        };
+        numbers[i] = number.value;
+        ours[i] = one;
+        next = d;
+        i += 1;
+    }
+    Managers {
+        managers: managers,
+        numbers: numbers,
+        ours: ours,
+        next: next,
+    }
+}
+
+// ColumnInfo up to the sequence number: version 2, original name, version 1.
+fn read_sequence(s: &[u8], c: Cursor) -> Sequence
+    ensures { λ r. ⌜ r ≡ sequenceAt (now (s .entry)) c ⌝ }
+    ensures bounded { λ r. ⌜ r .value < 4294967296 ⌝ }
+{
+    let v = aipsio::version(s, c, 2, 2);
+    let name = aipsio::string(s, v.next, 0, 4096);
+    let w = aipsio::version(s, name.next, 1, 1);
+    let q = aipsio::uint(s, w.next);
+    let next = q.next;
+    Sequence {
+        value: q.value,
+        from: w.next.at,
+        next: next,
+    }
+}
+
+// The rest of an array's ColumnInfo: whether it has a shape of its own, and that shape.
+fn skip_own_shape(s: &[u8], c: Cursor, array: bool) -> Cursor
+    ensures { λ r. ⌜ r ≡ ownShapeAt (now (s .entry)) c array ⌝ }
+{
+    if array {
+        let own = aipsio::flag(s, c);
+        let next = own.next;
+        if own.value == 0 {
+            return next;
+        }
+        return aipsio::iposition(s, next);
+    }
+    c
+}
+
+// The number at a place of a list, 0 past its end.
+fn number_at(list: &[usize; 16], k: usize) -> usize
+    ensures { λ r. ⌜ r ≡ getD (now (list .entry)) k 0 ⌝ }
+{
+    let all = &list[..];
+    if k < all.len() {
+        return all[k];
+    }
+    0
+}
+
+// The flag at a place of a list, false past its end.
+fn flag_at(list: &[bool; 16], k: usize) -> bool
+    ensures { λ r. ⌜ r ≡ getD (now (list .entry)) k false ⌝ }
+{
+    let all = &list[..];
+    if k < all.len() {
+        return all[k];
+    }
+    false
+}
+
+// One more at a place of a list of counts.
+fn one_more(counts: [usize; 16], k: usize) -> [usize; 16]
+    requires { ⌜ ((j : ℕ) → getD counts j 0 ≤ 64) ⌝ }
+    ensures { λ r. ⌜ r ≡ set counts k (getD counts k 0 + 1) ⌝ }
+{
+    let mut list = counts;
+    if k < 16 {
+        list[k] = list[k] + 1;
+    }
+    list
+}
+
+fn no_owner() -> Owner
+    ensures { λ r. ⌜ r ≡ noOwner ⌝ }
+{
+    Owner {
+        sequence: 0,
+        manager: 0,
+        rank: 0,
+    }
+}
+
+// ColumnInfo of n columns. A sequence number that none of m managers has: 6.
+pub fn read_owners(
+    s: &[u8],
+    c: Cursor,
+    arrays: [bool; 64],
+    n: usize,
+    numbers: [usize; 16],
+    m: usize,
+) -> Owners
+    requires { ⌜ (n ≤ 64) × (m ≤ 16) ⌝ }
+    ensures { λ r. ⌜ r ≡ ownersAt (now (s .entry)) c arrays n numbers m ⌝ }
+    ensures bounded { λ r. ⌜ ((k : ℕ) → getD (r .counts) k 0 ≤ 64) ⌝ }
+{
+    let none = no_owner();
+    let mut owners = [none; 64];
+    let mut counts = [0usize; 16];
+    let mut next = c;
+    let mut i = 0;
+    while i < n {
+        let array = arrays[i];
+        let q = read_sequence(s, next);
+        let k = first_number(&numbers, m, q.value);
+        let d = aipsio::judge(q.next, q.from, k < m, 6);
+        let rank = number_at(&counts, k);
+        owners[i] = Owner {
+            sequence: q.value as u32,
+            manager: k as u32,
+            rank: rank as u32,
+        };
+        counts = one_more(counts, k);
+        next = skip_own_shape(s, d, array);
+        i += 1;
+    }
+    Owners {
+        owners: owners,
+        counts: counts,
+        next: next,
+    }
+}
+
+// DMInfo of the two kinds has 8 bytes for each column bound to its manager.
+fn length_fits(ours: bool, len: usize, count: usize) -> bool
+    requires { ⌜ count ≤ 64 ⌝ }
+    ensures { λ r. ⌜ r ≡ lengthFits ours len count ⌝ }
+{
+    if ours {
+        return len == 8 * count;
+    }
+    true
+}
+
+// DMInfo of m managers: a wrong length is 7.
+pub fn read_infos(s: &[u8], c: Cursor, ours: [bool; 16], counts: [usize; 16], m: usize) -> Infos
+    requires { ⌜ (m ≤ 16) × ((k : ℕ) → getD counts k 0 ≤ 64) ⌝ }
+    ensures { λ r. ⌜ r ≡ infosAt (now (s .entry)) c ours counts m ⌝ }
+{
+    let mut starts = [0usize; 16];
+    let mut next = c;
+    let mut j = 0;
+    while j < m {
+        let t = aipsio::any_string(s, next);
+        let ok = length_fits(ours[j], t.len, counts[j]);
+        next = aipsio::judge(t.next, next.at, ok, 7);
+        starts[j] = t.start;
+        j += 1;
+    }
+    Infos {
+        starts: starts,
+        next: next,
+    }
+}
+
+pub fn no_binding() -> Binding
+    ensures { λ r. ⌜ r ≡ noBinding ⌝ }
+{
+    Binding {
+        sequence: 0,
+        set: 0,
+        offset: 0,
+    }
+}
+
+// The binding of a column: DMInfo has the set numbers of its manager's columns, then their offsets.
+fn read_binding(info: &[u8], owner: Owner, ours: bool, count: usize) -> Binding
+    requires { ⌜ count ≤ 64 ⌝ }
+    ensures { λ r. ⌜ r ≡ bindingOf (now (info .entry)) owner ours count ⌝ }
+{
+    let rank = owner.rank as usize;
+    if ours {
+        let set = bytes_at::word(info, 4 * rank, true);
+        let offset = bytes_at::word(info, 4 * (count + rank), true);
+        return Binding {
+            sequence: owner.sequence,
+            set: set as u32,
+            offset: offset as u32,
+        };
+    }
+    Binding {
+        sequence: owner.sequence,
+        set: 0,
+        offset: 0,
+    }
+}
+
+// The bindings of n columns.
+pub fn bind(
+    s: &[u8],
+    owners: [Owner; 64],
+    counts: [usize; 16],
+    ours: [bool; 16],
+    starts: [usize; 16],
+    n: usize,
+) -> [Binding; 64]
+    requires { ⌜ (n ≤ 64) × ((k : ℕ) → getD counts k 0 ≤ 64) ⌝ }
+    ensures { λ r. ⌜ r ≡ bindingsAt (now (s .entry)) owners counts ours starts n ⌝ }
+{
+    let none = no_binding();
+    let mut bindings = [none; 64];
+    let mut i = 0;
+    while i < n {
+        let owner = owners[i];
+        let k = owner.manager as usize;
+        let count = number_at(&counts, k);
+        let start = number_at(&starts, k);
+        let one = flag_at(&ours, k);
+        let info = bytes_at::part(s, start, 8 * count);
+        bindings[i] = read_binding(info, owner, one, count);
+        i += 1;
+    }
+    bindings
+}

@@ -1,0 +1,13 @@
+-- How many columns and managers a description has at most. Assumes nothing.
+use mathlib.Core.Path.{_≡_, subst, sym}
+use Prim.Native.Nat.{ℕ, _≤_}
+use native.Mathlib.Omega.{arith}
+use Rattle.table.specs.declared.Description.{Description}
+use Rattle.table.specs.Table.{refusedWith}
+
+abbrev pub Bounded : Description → Type 0
+Bounded d = (d .«column_count» ≤ 64) × (d .«manager_count» ≤ 16)
+
+pub refused-bounded : (n : ℕ) {d : Description} → d ≡ refusedWith n → Bounded d
+unfolding refusedWith
+refused-bounded n e = rw e (omega arith, omega arith)

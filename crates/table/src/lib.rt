@@ -1,0 +1,162 @@
+// table.dat (document 01, "table.dat"; Note 260, 3.1): Description and Column by name.
+ghost use mathlib.Core.Path.{_≡_};
+ghost use Prim.Native.Nat.{_≤_};
+ghost use Rattle.table.specs.Table.{headAt, descHeadAt, describedAs, refusedWith, positionOf};
+use aipsio::Cursor;
+use bytes_at::Width;
+use column_desc::Column;
+use column_set::Binding;
+use column_set::Manager;
+
+// What table.dat says; zeros where it is refused. The columns stand in stored order, each with its binding.
+pub struct Description {
+    pub refused: usize,
+    pub rows: usize,
+    pub column_count: usize,
+    pub manager_count: usize,
+    pub columns: [Column; 64],
+    pub bindings: [Binding; 64],
+    pub managers: [Manager; 16],
+    pub big: bool,
+}
+
+// A column's position, or the refusal.
+pub enum Position {
+    At(usize),
+    Refused(usize),
+}
+
+// Row count and endianness, and the cursor past the table type.
+pub struct Head {
+    pub rows: usize,
+    pub big: bool,
+    pub next: Cursor,
+}
+
+// The number of columns, and the cursor at the first column description.
+pub struct DescHead {
+    pub count: usize,
+    pub next: Cursor,
+}
+
+// Row count, endianness and table type.
+fn read_head(s: &[u8], c: Cursor) -> Head
+    ensures { λ r. ⌜ r ≡ headAt (now (s .entry)) c ⌝ }
+{
+    let rows = aipsio::number(s, c, Width::Four, 0, 2147483647);
+    let endian = aipsio::code(s, rows.next, 0, 1);
+    let kind = aipsio::name(s, endian.next, b"PlainTable");
+    Head {
+        rows: rows.value,
+        big: endian.value == 1,
+        next: kind,
+    }
+}
+
+// The fields of TableDesc before its columns: name, version, comment, keywords, private keywords, and the column count.
+fn read_desc_head(s: &[u8], c: Cursor) -> DescHead
+    ensures { λ r. ⌜ r ≡ descHeadAt (now (s .entry)) c ⌝ }
+    ensures bounded { λ r. ⌜ r .count ≤ 64 ⌝ }
+{
+    let name = aipsio::string(s, c, 0, 4096);
+    let version = aipsio::string(s, name.next, 0, 4096);
+    let comment = aipsio::string(s, version.next, 0, 4096);
+    let keywords = aipsio::record(s, comment.next);
+    let private = aipsio::record(s, keywords);
+    let n = aipsio::number(s, private, Width::Four, 1, 64);
+    let next = n.next;
+    DescHead {
+        count: n.value,
+        next: next,
+    }
+}
+
+// A refusal carries its number and zeros.
+fn refuse(number: usize) -> Description
+    ensures { λ r. ⌜ r ≡ refusedWith number ⌝ }
+{
+    let column = column_desc::no_column();
+    let binding = column_set::no_binding();
+    let manager = column_set::no_manager();
+    Description {
+        refused: number,
+        rows: 0,
+        column_count: 0,
+        manager_count: 0,
+        columns: [column; 64],
+        bindings: [binding; 64],
+        managers: [manager; 16],
+        big: false,
+    }
+}
+
+// What the bytes of table.dat describe.
+pub fn describe(s: &[u8]) -> Description
+    ensures { λ r. ⌜ r ≡ describedAs (now (s .entry)) ⌝ }
+    ensures bounded { λ r. ⌜ (r .«column_count» ≤ 64) × (r .«manager_count» ≤ 16) ⌝ }
+{
+    let whole = Cursor {
+        at: 0,
+        end: s.len(),
+        big: true,
+        refused: 0,
+    };
+    let c = aipsio::judge(whole, 65536, s.len() <= 65536, 4);
+    let m = aipsio::mark(s, c);
+    let t = aipsio::open(s, m, b"Table", 2, 2);
+    let head = read_head(s, t.next);
+    let o = aipsio::open(s, head.next, b"TableDesc", 2, 2);
+    let n = read_desc_head(s, o.next);
+    let cs = column_desc::read_columns(s, n.next, n.count);
+    let e = aipsio::close(cs.next, head.next);
+    let set = column_set::read_head(s, e, head.rows);
+    let ms = column_set::read_managers(s, set.next, set.count, set.highest);
+    let numbers = ms.numbers;
+    let ours = ms.ours;
+    let arrays = cs.arrays;
+    let os = column_set::read_owners(s, ms.next, arrays, n.count, numbers, set.count);
+    let counts = os.counts;
+    let is = column_set::read_infos(s, os.next, ours, counts, set.count);
+    let d = aipsio::close(is.next, m);
+    let refused = d.refused;
+    if refused != 0 {
+        return refuse(refused);
+    }
+    let owners = os.owners;
+    let starts = is.starts;
+    let bindings = column_set::bind(s, owners, counts, ours, starts, n.count);
+    let columns = cs.columns;
+    let managers = ms.managers;
+    Description {
+        refused: 0,
+        rows: head.rows,
+        big: head.big,
+        column_count: n.count,
+        manager_count: set.count,
+        columns: columns,
+        bindings: bindings,
+        managers: managers,
+    }
+}
+
+// The position of the column with a name; 8 where there is none.
+pub fn column_by_name(s: &[u8], name: &[u8]) -> Position
+    ensures { λ r. ⌜ r ≡ positionOf (now (s .entry)) (now (name .entry)) ⌝ }
+{
+    let d = describe(s);
+    let refused = d.refused;
+    if refused != 0 {
+        return Position::Refused(refused);
+    }
+    let columns = d.columns;
+    let n = d.column_count;
+    let mut i = 0;
+    while i < n {
+        let c = columns[i];
+        if bytes_at::same(bytes_at::part(s, c.start, c.len), name) {
+            return Position::At(i);
+        }
+        i += 1;
+    }
+    Position::Refused(8)
+}

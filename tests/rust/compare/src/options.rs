@@ -1,0 +1,116 @@
+//! The command line.
+
+use std::ops::RangeInclusive;
+use std::path::PathBuf;
+use writer::sets::{self, Set};
+
+#[derive(Clone, Debug, PartialEq, Eq)]
+pub struct Options {
+    /// The least number of requests.
+    pub min: u64,
+    /// The refusal numbers that must occur.
+    pub each: RangeInclusive<usize>,
+    /// Where the first request with a difference goes.
+    pub save: PathBuf,
+    pub sets: Vec<Set>,
+    pub command: Vec<String>,
+}
+
+pub fn usage() -> String {
+    let sets: Vec<String> = sets::USAGE.lines().map(|line| format!("  {line}")).collect();
+    format!(
+        "usage: compare [--min TOTAL] [--each FROM..TO] [--save FILE] SET [, SET]... -- COMMAND [ARGUMENT]...
+
+Gives the sets' request lines to COMMAND, one a line, and compares its answers,
+one a line, with the model's. Prints how often each question was accepted and
+refused with each number. Fails at the first difference, and also if COMMAND
+gives too few or too many answers or ends with an error.
+
+  --min TOTAL      fail if there are fewer requests
+  --each FROM..TO  fail if one of these refusal numbers does not occur
+  --save FILE      where to put the request with the first difference;
+                   target/tests/difference.txt if not given
+
+Sets, with commas between them:
+{}",
+        sets.join("\n")
+    )
+}
+
+impl Options {
+    pub fn parse(arguments: &[String]) -> Result<Self, String> {
+        let dashes = arguments.iter().position(|argument| argument == "--");
+        let (own, command) = arguments.split_at(dashes.ok_or("no `--` before the command")?);
+        let mut options = Self {
+            min: 0,
+            each: RangeInclusive::new(1, 0),
+            save: PathBuf::from("target/tests/difference.txt"),
+            sets: Vec::new(),
+            command: command[1..].to_vec(),
+        };
+        if options.command.is_empty() {
+            return Err("no command".to_string());
+        }
+        let mut own = own;
+        while let [option, value, rest @ ..] = own
+            && option.starts_with("--")
+        {
+            match option.as_str() {
+                "--min" => {
+                    options.min = value.parse().map_err(|_| format!("no number: {value}"))?
+                }
+                "--each" => options.each = range(value).ok_or(format!("no range: {value}"))?,
+                "--save" => options.save = PathBuf::from(value),
+                _ => return Err(format!("no such option: {option}")),
+            }
+            own = rest;
+        }
+        for set in own.join(" ").split(',') {
+            options.sets.push(Set::parse(&set.split_whitespace().collect::<Vec<_>>())?);
+        }
+        Ok(options)
+    }
+}
+
+/// `FROM..TO`, both included.
+fn range(text: &str) -> Option<RangeInclusive<usize>> {
+    let (from, to) = text.split_once("..")?;
+    let range = from.parse().ok()?..=to.parse().ok()?;
+    (*range.start() > 0 && *range.end() < crate::tally::NUMBERS).then_some(range)
+}
+
+#[cfg(test)]
+mod tests {
+    use super::*;
+
+    fn parse(line: &str) -> Result<Options, String> {
+        Options::parse(&line.split(' ').map(String::from).collect::<Vec<_>>())
+    }
+
+    #[test]
+    fn options_sets_and_command() {
+        let options =
+            parse("--min 10 --each 1..8 tables 1 20, prefixes , large -- sh -c x").unwrap();
+        assert_eq!((options.min, options.each), (10, 1..=8));
+        let large = Set::Large { seed: 1, count: 300 };
+        assert_eq!(options.sets, [Set::Tables { seed: 1, count: 20 }, Set::Prefixes, large]);
+        assert_eq!(options.command, ["sh", "-c", "x"]);
+    }
+
+    #[test]
+    fn faulty_lines() {
+        for line in [
+            "prefixes",
+            "prefixes --",
+            "-- cat",
+            "tables 1 -- cat",
+            "tables 1 x -- cat",
+            "prefixes, -- cat",
+            "--each 0..8 prefixes -- cat",
+            "--each 1-8 prefixes -- cat",
+            "--every 1..8 prefixes -- cat",
+        ] {
+            assert!(parse(line).is_err(), "{line}");
+        }
+    }
+}

@@ -1,0 +1,182 @@
+//! The files of IncrementalStMan: document 01, IncrementalStMan, and Note 260,
+//! section 3.4.3.
+
+use crate::aipsio::Reader;
+use crate::buckets::{BucketSet, Buckets, header};
+use crate::data_type::DataType;
+use crate::refusal::{ENDS_EARLY, WRONG_MAP, WRONG_VERSION};
+use crate::table::{Column, Description};
+
+/// A bucket begins with the offset of its index; the data part follows it.
+const DATA_START: u32 = 4;
+
+/// A file that was checked.
+#[derive(Clone, Copy, Debug)]
+pub struct IncrementalFile<'a> {
+    buckets: Buckets<'a>,
+    big_endian: bool,
+    /// Of each bucket in the index, and the row count.
+    first_rows: &'a [[u8; 4]],
+    /// The buckets in the index.
+    numbers: &'a [[u8; 4]],
+}
+
+impl<'a> IncrementalFile<'a> {
+    /// Checks the file of a manager.
+    pub fn check(description: &Description<'_>, manager: u32, file: &'a [u8]) -> Result<Self, u8> {
+        let big_endian = description.big_endian;
+        let (start, mut fields) = header(file, b"IncrementalStMan", 5, big_endian)?;
+        fields.uint()?; // unique column number
+        let free_count = fields.uint()?;
+        let first_free = fields.int()?;
+        fields.finish()?;
+        let buckets = Buckets::new(file, start)?;
+        let (first_rows, numbers) = read_index(buckets.after())?;
+        let free = buckets.free_list(first_free, free_count)?;
+        let file = Self { buckets, big_endian, first_rows, numbers };
+        file.check_index(free, description.rows)?;
+        for entry in 0..numbers.len() {
+            file.check_bucket(entry, description.columns_of(manager))?;
+        }
+        Ok(file)
+    }
+
+    /// Bucket numbers are in range, all different and none is free; first rows
+    /// rise from 0 to the row count.
+    fn check_index(&self, mut claimed: BucketSet, rows: u32) -> Result<(), u8> {
+        for number in self.numbers {
+            self.buckets.claim(&mut claimed, u32::from_be_bytes(*number))?;
+        }
+        // Big endian numbers compare as their bytes do.
+        let ends = (self.first_rows.first(), self.first_rows.last());
+        if ends != (Some(&[0; 4]), Some(&rows.to_be_bytes()))
+            || !self.first_rows.is_sorted_by(|row, next| row < next)
+        {
+            return Err(WRONG_MAP);
+        }
+        Ok(())
+    }
+
+    fn check_bucket<'c>(
+        &self,
+        entry: usize,
+        columns: impl Iterator<Item = &'c Column<'c>>,
+    ) -> Result<(), u8> {
+        let bucket = self.bucket(entry);
+        let offset = BucketReader::new(bucket, self.big_endian).uint()?;
+        if offset >> 24 != 0 {
+            return Err(WRONG_VERSION); // row numbers of 64 bits
+        }
+        if offset < DATA_START {
+            return Err(WRONG_MAP);
+        }
+        let index = bucket.get(offset as usize..).ok_or(WRONG_MAP)?;
+        let mut fields = BucketReader::new(index, self.big_endian);
+        let rows = self.first_row(entry + 1) - self.first_row(entry);
+        for column in columns {
+            // Only the offset of a String is judged.
+            let cell = match column.data_type {
+                DataType::String => 0,
+                _ => column.cell_bits.div_ceil(8),
+            };
+            let count = fields.uint()?;
+            if count == 0 {
+                return Err(WRONG_MAP);
+            }
+            let mut least = 0;
+            for value in 0..count {
+                let start = fields.uint()?;
+                if start < least || start >= rows || (value == 0 && start > 0) {
+                    return Err(WRONG_MAP);
+                }
+                least = start + 1;
+            }
+            for _ in 0..count {
+                let start = fields.uint()?;
+                if u64::from(start) + u64::from(cell) > u64::from(offset - DATA_START) {
+                    return Err(WRONG_MAP);
+                }
+            }
+        }
+        Ok(())
+    }
+
+    /// The bucket of an entry of the index.
+    fn bucket(&self, entry: usize) -> &'a [u8] {
+        self.buckets.bucket(u32::from_be_bytes(self.numbers[entry]) as usize)
+    }
+
+    fn first_row(&self, entry: usize) -> u32 {
+        u32::from_be_bytes(self.first_rows[entry])
+    }
+
+    pub fn bucket_size(&self) -> usize {
+        self.buckets.size()
+    }
+
+    /// The first bit of a cell; the row is one of the table's, and the column
+    /// is the manager's column number `column`.
+    pub fn first_bit(&self, column: usize, row: u32) -> u64 {
+        // The last bucket whose first row is not above the row.
+        let entry = self.first_rows.partition_point(|first| *first <= row.to_be_bytes()) - 1;
+        let local_row = row - self.first_row(entry);
+        let offset = self.value_offset(entry, column, local_row).expect("the bucket was checked");
+        let bucket = u32::from_be_bytes(self.numbers[entry]) as usize;
+        8 * (self.buckets.start(bucket) as u64 + u64::from(DATA_START) + u64::from(offset))
+    }
+
+    /// The offset, in a bucket's data part, of the value that a row has.
+    fn value_offset(&self, entry: usize, column: usize, local_row: u32) -> Result<u32, u8> {
+        let bucket = self.bucket(entry);
+        let index_offset = BucketReader::new(bucket, self.big_endian).uint()? as usize;
+        let mut fields = BucketReader::new(&bucket[index_offset..], self.big_endian);
+        for _ in 0..column {
+            fields.values()?;
+        }
+        let (starts, offsets) = fields.values()?;
+        let value = starts.partition_point(|start| fields.number(*start) <= local_row) - 1;
+        Ok(fields.number(offsets[value]))
+    }
+}
+
+/// ISMIndex: the first rows and the numbers of the buckets.
+fn read_index(container: &[u8]) -> Result<(&[[u8; 4]], &[[u8; 4]]), u8> {
+    let mut container = Reader::new(container);
+    container.expect_mark()?;
+    let (_, mut fields) = container.object(b"ISMIndex", &[1])?;
+    let count = u64::from(fields.uint()?);
+    let first_rows = fields.block(count + 1)?;
+    let numbers = fields.block(count)?;
+    fields.finish()?;
+    Ok((first_rows, numbers))
+}
+
+/// Reads numbers of a bucket, in the table's endianness.
+struct BucketReader<'a> {
+    rest: &'a [u8],
+    big_endian: bool,
+}
+
+impl<'a> BucketReader<'a> {
+    fn new(bytes: &'a [u8], big_endian: bool) -> Self {
+        Self { rest: bytes, big_endian }
+    }
+
+    fn number(&self, bytes: [u8; 4]) -> u32 {
+        if self.big_endian { u32::from_be_bytes(bytes) } else { u32::from_le_bytes(bytes) }
+    }
+
+    fn uint(&mut self) -> Result<u32, u8> {
+        let (field, rest) = self.rest.split_first_chunk().ok_or(ENDS_EARLY)?;
+        self.rest = rest;
+        Ok(self.number(*field))
+    }
+
+    /// A column's values: their first rows and their offsets.
+    fn values(&mut self) -> Result<(&'a [[u8; 4]], &'a [[u8; 4]]), u8> {
+        let count = self.uint()? as usize;
+        let (values, rest) = self.rest.split_at_checked(8 * count).ok_or(ENDS_EARLY)?;
+        self.rest = rest;
+        Ok(values.as_chunks().0.split_at(count))
+    }
+}

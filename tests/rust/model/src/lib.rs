@@ -1,0 +1,27 @@
+//! An independent model of the questions of document 01 ("the planned build
+//! and its exact rules") about Casacore tables, written from the papers alone.
+//!
+//! A refused question gives the refusal number of document 01; the numbers
+//! have names in [`refusal`]. "Note 260" is Casacore Note 260, Table System
+//! File Formats.
+
+pub mod aipsio;
+mod buckets;
+pub mod data_type;
+pub mod hex;
+mod incremental;
+pub mod listing;
+pub mod question;
+pub mod refusal;
+pub mod request;
+mod standard;
+pub mod table;
+
+pub use data_type::DataType;
+pub use listing::listing;
+pub use question::{Plan, check, place, place_by_plan, plan, view, view_by_plan};
+pub use request::answer;
+pub use table::{Column, Description, Kind, Manager, column, describe};
+
+// Lengths of 32-bit counts and files above 4 GiB are computed in usize.
+const _: () = assert!(usize::BITS >= 64);

@@ -1,0 +1,255 @@
+//! The questions File check, Plan, Place and View: document 01, The questions
+//! and Refusal numbers (Order).
+//!
+//! Each is lent an index room. After a refusal it is all zero, and for
+//! IncrementalStMan always; after acceptance in StandardStMan it holds the
+//! index text, then zeros.
+
+use crate::data_type::DataType;
+use crate::incremental::IncrementalFile;
+use crate::refusal::{BOOL_VIEW, NO_ROW, NO_SUCH, STALE_PLAN};
+use crate::standard::StandardFile;
+use crate::table::{Column, Description, Kind, Manager, describe};
+use std::ops::Range;
+
+/// What places the cells of a column, but for the rows' buckets.
+#[derive(Clone, Copy, Debug, PartialEq, Eq)]
+pub struct Plan {
+    /// The column's position.
+    pub position: u64,
+    /// The sequence number of the column's manager.
+    pub manager: u64,
+    /// The number of the data type.
+    pub data_type: u64,
+    pub elements: u64,
+    /// In IncrementalStMan, whole bytes.
+    pub cell_bits: u64,
+    /// 0 in IncrementalStMan, as the next two.
+    pub set: u64,
+    pub offset: u64,
+    pub rows_per_bucket: u64,
+    pub bucket_size: u64,
+}
+
+/// Checks the file of the manager with this sequence number; gives its kind.
+pub fn check(table: &[u8], number: u64, file: &[u8], room: &mut [u8]) -> Result<Kind, u8> {
+    zero_if_refused(room, |room| {
+        let description = describe(table)?;
+        let mut managers = description.managers.iter();
+        let manager =
+            managers.find(|manager| u64::from(manager.number) == number).ok_or(NO_SUCH)?;
+        File::check(&description, manager, file, room)?;
+        Ok(manager.kind)
+    })
+}
+
+/// The plan of the column at this position.
+pub fn plan(table: &[u8], file: &[u8], position: u64, room: &mut [u8]) -> Result<Plan, u8> {
+    ask(table, file, position, room, |asked| Ok(asked.plan()))
+}
+
+/// A cell's first bit, counted from the file's start, and its bit count.
+pub fn place(
+    table: &[u8],
+    file: &[u8],
+    row: u64,
+    position: u64,
+    room: &mut [u8],
+) -> Result<(u64, u64), u8> {
+    ask(table, file, position, room, |asked| asked.place(row))
+}
+
+/// The same for the plan's column, if the plan is the one that the files give.
+pub fn place_by_plan(
+    table: &[u8],
+    file: &[u8],
+    row: u64,
+    plan: &Plan,
+    room: &mut [u8],
+) -> Result<(u64, u64), u8> {
+    ask(table, file, plan.position, room, |asked| {
+        asked.expect_plan(plan)?;
+        asked.place(row)
+    })
+}
+
+/// The part of the file that holds a cell.
+pub fn view<'a>(
+    table: &[u8],
+    file: &'a [u8],
+    row: u64,
+    position: u64,
+    room: &mut [u8],
+) -> Result<&'a [u8], u8> {
+    Ok(&file[view_range(table, file, row, position, room)?])
+}
+
+/// The same for the plan's column, if the plan is the one that the files give.
+pub fn view_by_plan<'a>(
+    table: &[u8],
+    file: &'a [u8],
+    row: u64,
+    plan: &Plan,
+    room: &mut [u8],
+) -> Result<&'a [u8], u8> {
+    Ok(&file[view_range_by_plan(table, file, row, plan, room)?])
+}
+
+/// Where the part that [`view`] gives stands in the file.
+pub(crate) fn view_range(
+    table: &[u8],
+    file: &[u8],
+    row: u64,
+    position: u64,
+    room: &mut [u8],
+) -> Result<Range<usize>, u8> {
+    ask(table, file, position, room, |asked| asked.view(row))
+}
+
+/// Where the part that [`view_by_plan`] gives stands in the file.
+pub(crate) fn view_range_by_plan(
+    table: &[u8],
+    file: &[u8],
+    row: u64,
+    plan: &Plan,
+    room: &mut [u8],
+) -> Result<Range<usize>, u8> {
+    ask(table, file, plan.position, room, |asked| {
+        asked.expect_plan(plan)?;
+        asked.view(row)
+    })
+}
+
+/// The room is all zero after every refusal.
+fn zero_if_refused<T>(
+    room: &mut [u8],
+    question: impl FnOnce(&mut [u8]) -> Result<T, u8>,
+) -> Result<T, u8> {
+    let answer = question(room);
+    if answer.is_err() {
+        room.fill(0);
+    }
+    answer
+}
+
+/// Answers a question about a column, after the table, the column and the file
+/// of its manager were checked.
+fn ask<T>(
+    table: &[u8],
+    file: &[u8],
+    position: u64,
+    room: &mut [u8],
+    question: impl FnOnce(&Asked<'_>) -> Result<T, u8>,
+) -> Result<T, u8> {
+    zero_if_refused(room, |room| {
+        let description = describe(table)?;
+        let index = usize::try_from(position).map_err(|_| NO_SUCH)?;
+        let column = description.columns.get(index).ok_or(NO_SUCH)?;
+        let mut managers = description.managers.iter();
+        let manager = managers.find(|manager| manager.number == column.manager).ok_or(NO_SUCH)?;
+        if manager.kind == Kind::Incremental && column.data_type == DataType::String {
+            return Err(NO_SUCH);
+        }
+        let file = File::check(&description, manager, file, room)?;
+        question(&Asked { description: &description, position: index, column, file })
+    })
+}
+
+/// A file that was checked.
+enum File<'a> {
+    Standard(StandardFile<'a>),
+    Incremental(IncrementalFile<'a>),
+}
+
+impl<'a> File<'a> {
+    fn check(
+        description: &Description<'_>,
+        manager: &Manager<'_>,
+        file: &'a [u8],
+        room: &'a mut [u8],
+    ) -> Result<Self, u8> {
+        let number = manager.number;
+        Ok(match manager.kind {
+            Kind::Standard => Self::Standard(StandardFile::check(description, number, file, room)?),
+            Kind::Incremental => {
+                room.fill(0);
+                Self::Incremental(IncrementalFile::check(description, number, file)?)
+            }
+            Kind::Other => return Err(NO_SUCH),
+        })
+    }
+}
+
+/// A column that is asked about, and its manager's file.
+struct Asked<'a> {
+    description: &'a Description<'a>,
+    position: usize,
+    column: &'a Column<'a>,
+    file: File<'a>,
+}
+
+impl Asked<'_> {
+    /// In IncrementalStMan, cells take whole bytes.
+    fn cell_bits(&self) -> u64 {
+        let bits = u64::from(self.column.cell_bits);
+        match self.file {
+            File::Standard(_) => bits,
+            File::Incremental(_) => bits.next_multiple_of(8),
+        }
+    }
+
+    fn plan(&self) -> Plan {
+        let column = self.column;
+        let (set, offset, rows_per_bucket, bucket_size) = match &self.file {
+            File::Standard(file) => {
+                let rows_per_bucket = file.rows_per_bucket(column.set);
+                (column.set, column.offset, rows_per_bucket, file.bucket_size())
+            }
+            File::Incremental(file) => (0, 0, 0, file.bucket_size()),
+        };
+        Plan {
+            position: self.position as u64,
+            manager: column.manager.into(),
+            data_type: column.data_type.number() as u64,
+            elements: column.elements.into(),
+            cell_bits: self.cell_bits(),
+            set: set.into(),
+            offset: offset.into(),
+            rows_per_bucket: rows_per_bucket.into(),
+            bucket_size: bucket_size as u64,
+        }
+    }
+
+    fn expect_plan(&self, plan: &Plan) -> Result<(), u8> {
+        if *plan != self.plan() {
+            return Err(STALE_PLAN);
+        }
+        Ok(())
+    }
+
+    fn place(&self, row: u64) -> Result<(u64, u64), u8> {
+        if row >= self.description.rows.into() {
+            return Err(NO_ROW);
+        }
+        let row = row as u32;
+        let first_bit = match &self.file {
+            File::Standard(file) => file.first_bit(self.column, row),
+            File::Incremental(file) => {
+                let earlier = &self.description.columns[..self.position];
+                let manager = self.column.manager;
+                let before = earlier.iter().filter(|column| column.manager == manager).count();
+                file.first_bit(before, row)
+            }
+        };
+        Ok((first_bit, self.cell_bits()))
+    }
+
+    fn view(&self, row: u64) -> Result<Range<usize>, u8> {
+        let (first_bit, bits) = self.place(row)?;
+        if matches!(self.file, File::Standard(_)) && self.column.data_type == DataType::Bool {
+            return Err(BOOL_VIEW);
+        }
+        let start = (first_bit / 8) as usize;
+        Ok(start..start + (bits / 8) as usize)
+    }
+}

@@ -1,0 +1,242 @@
+//! The files of StandardStMan: document 01, StandardStMan, and Note 260,
+//! section 3.4.2.
+
+use crate::aipsio::Reader;
+use crate::buckets::{BucketSet, Buckets, HeaderStart, header};
+use crate::refusal::{OUT_OF_RANGE, SHORT_ROOM, WRONG_CHAIN, WRONG_MAP};
+use crate::table::{Column, Description};
+
+// Document 01, Ranges.
+const MAX_INDEX_LENGTH: u32 = 65_536;
+const MAX_INDICES: u32 = 16;
+const MAX_ROWS_PER_BUCKET: u32 = 8_388_608;
+
+/// An index bucket of a chain begins with the next number, twice.
+const LINKS: usize = 8;
+
+#[derive(Clone, Copy, Debug)]
+struct Header {
+    start: HeaderStart,
+    free_count: u32,
+    first_free: i32,
+    index_buckets: u32,
+    first_index_bucket: i32,
+    /// 0 for a chain, else at least 8.
+    index_offset: u32,
+    index_length: usize,
+    indices: usize,
+}
+
+/// SSMIndex: which rows of a set of columns are in which buckets.
+#[derive(Clone, Copy, Debug)]
+struct Index<'a> {
+    rows_per_bucket: u32,
+    columns: i32,
+    last_rows: &'a [[u8; 4]],
+    buckets: &'a [[u8; 4]],
+}
+
+/// A file that was checked.
+#[derive(Clone, Debug)]
+pub struct StandardFile<'a> {
+    buckets: Buckets<'a>,
+    /// One for each set.
+    indices: Vec<Index<'a>>,
+}
+
+impl<'a> StandardFile<'a> {
+    /// Checks the file of a manager. The room then holds the index text, and
+    /// zeros after it; if the file is refused, the room holds anything.
+    pub fn check(
+        description: &Description<'_>,
+        manager: u32,
+        file: &'a [u8],
+        room: &'a mut [u8],
+    ) -> Result<Self, u8> {
+        let header = read_header(file, description.big_endian)?;
+        let buckets = Buckets::new(file, header.start)?;
+        let (text, rest) = room.split_at_mut_checked(header.index_length).ok_or(SHORT_ROOM)?;
+        let index_buckets = read_text(&buckets, &header, text)?;
+        rest.fill(0);
+        let indices = read_indices(text, header.indices)?;
+        let free = buckets.free_list(header.first_free, header.free_count)?;
+        let file = Self { buckets, indices };
+        file.check_buckets(index_buckets, &free)?;
+        file.check_rows(description.rows)?;
+        file.check_columns(description.columns_of(manager))?;
+        Ok(file)
+    }
+
+    /// Data, index and free buckets are in range and all different.
+    fn check_buckets(&self, mut claimed: BucketSet, free: &BucketSet) -> Result<(), u8> {
+        if claimed.meets(free) {
+            return Err(WRONG_MAP);
+        }
+        claimed.extend(free);
+        for number in self.indices.iter().flat_map(|index| index.buckets) {
+            self.buckets.claim(&mut claimed, u32::from_be_bytes(*number))?;
+        }
+        Ok(())
+    }
+
+    /// The last rows of each set rise to the table's last row, at most rows
+    /// per bucket at a time.
+    fn check_rows(&self, rows: u32) -> Result<(), u8> {
+        for index in &self.indices {
+            let mut row = 0; // the next entry's first row
+            for last in index.last_rows {
+                let next = u64::from(u32::from_be_bytes(*last)) + 1;
+                if next <= row || next - row > index.rows_per_bucket.into() {
+                    return Err(WRONG_MAP);
+                }
+                row = next;
+            }
+            if row != rows.into() {
+                return Err(WRONG_MAP);
+            }
+        }
+        Ok(())
+    }
+
+    /// The manager's columns are in sets that are there, each set has as many
+    /// as it says, and their extents lie in the bucket and do not meet.
+    fn check_columns<'c>(&self, columns: impl Iterator<Item = &'c Column<'c>>) -> Result<(), u8> {
+        let mut counts = vec![0; self.indices.len()];
+        let mut extents = Vec::new();
+        for column in columns {
+            let set = column.set as usize;
+            let index = self.indices.get(set).ok_or(WRONG_MAP)?;
+            counts[set] += 1;
+            let bits = u64::from(index.rows_per_bucket) * u64::from(column.cell_bits);
+            let start = u64::from(column.offset);
+            extents.push((set, start, start + bits.div_ceil(8)));
+        }
+        if self.indices.iter().zip(counts).any(|(index, count)| index.columns != count) {
+            return Err(WRONG_MAP);
+        }
+        extents.sort_unstable();
+        let meet = extents.windows(2).any(|pair| pair[0].0 == pair[1].0 && pair[1].1 < pair[0].2);
+        if meet || extents.iter().any(|(.., end)| *end > self.buckets.size() as u64) {
+            return Err(WRONG_MAP);
+        }
+        Ok(())
+    }
+
+    pub fn bucket_size(&self) -> usize {
+        self.buckets.size()
+    }
+
+    pub fn rows_per_bucket(&self, set: u32) -> u32 {
+        self.indices[set as usize].rows_per_bucket
+    }
+
+    /// The first bit of a cell; the row is one of the table's.
+    pub fn first_bit(&self, column: &Column<'_>, row: u32) -> u64 {
+        let index = self.indices[column.set as usize];
+        // The first entry whose last row is not below the row.
+        let entry = index.last_rows.partition_point(|last| u32::from_be_bytes(*last) < row);
+        let first_row = match entry.checked_sub(1) {
+            Some(before) => u32::from_be_bytes(index.last_rows[before]) + 1,
+            None => 0,
+        };
+        let bucket = u32::from_be_bytes(index.buckets[entry]) as usize;
+        let extent = self.buckets.start(bucket) as u64 + u64::from(column.offset);
+        8 * extent + u64::from(row - first_row) * u64::from(column.cell_bits)
+    }
+}
+
+fn read_header(file: &[u8], big_endian: bool) -> Result<Header, u8> {
+    let (start, mut fields) = header(file, b"StandardStMan", 3, big_endian)?;
+    let free_count = fields.uint()?;
+    let first_free = fields.int()?;
+    let index_buckets = fields.uint()?;
+    let first_index_bucket = fields.int()?;
+    let index_offset = fields.uint()?;
+    if (1..LINKS as u32).contains(&index_offset) {
+        return Err(OUT_OF_RANGE);
+    }
+    fields.int()?; // last string heap bucket
+    let index_length = fields.count(MAX_INDEX_LENGTH)?;
+    let indices = fields.count(MAX_INDICES)?;
+    fields.finish()?;
+    Ok(Header {
+        start,
+        free_count,
+        first_free,
+        index_buckets,
+        first_index_bucket,
+        index_offset,
+        index_length,
+        indices,
+    })
+}
+
+/// Gathers the index text; gives the index buckets.
+fn read_text(buckets: &Buckets<'_>, header: &Header, text: &mut [u8]) -> Result<BucketSet, u8> {
+    let mut index_buckets = BucketSet::default();
+    if header.index_offset > 0 {
+        // The text is within one bucket, whose other bytes are not read.
+        if header.index_buckets != 1 {
+            return Err(WRONG_CHAIN);
+        }
+        let bucket = buckets.linked(header.first_index_bucket)?;
+        index_buckets.insert(bucket);
+        let part = buckets.bucket(bucket).get(header.index_offset as usize..);
+        let part = part.and_then(|part| part.get(..text.len())).ok_or(WRONG_CHAIN)?;
+        text.copy_from_slice(part);
+        return Ok(index_buckets);
+    }
+    let mut missing = text;
+    buckets.follow(header.first_index_bucket, header.index_buckets, |bucket| {
+        index_buckets.insert(bucket);
+        let (links, part) = buckets.bucket(bucket).split_at(LINKS);
+        let mut links = Reader::new(links);
+        let next = links.int()?;
+        if links.int()? != next {
+            return Err(WRONG_CHAIN);
+        }
+        let length = missing.len().min(part.len());
+        let (filled, rest) = std::mem::take(&mut missing).split_at_mut(length);
+        filled.copy_from_slice(&part[..length]);
+        missing = rest;
+        Ok(next)
+    })?;
+    if !missing.is_empty() {
+        return Err(WRONG_CHAIN);
+    }
+    Ok(index_buckets)
+}
+
+/// The index text: one SSMIndex for each set.
+fn read_indices(text: &[u8], count: usize) -> Result<Vec<Index<'_>>, u8> {
+    let mut text = Reader::new(text);
+    let mut indices = Vec::with_capacity(count);
+    for _ in 0..count {
+        indices.push(read_index(&mut text)?);
+    }
+    text.finish()?;
+    Ok(indices)
+}
+
+fn read_index<'a>(text: &mut Reader<'a>) -> Result<Index<'a>, u8> {
+    text.expect_mark()?;
+    let (_, mut fields) = text.object(b"SSMIndex", &[1])?;
+    let entries = fields.uint()?;
+    let rows_per_bucket = fields.uint_within(1..=MAX_ROWS_PER_BUCKET)?;
+    let columns = fields.int()?;
+    pass_free_space(&mut fields)?;
+    let last_rows = fields.block(entries.into())?;
+    let buckets = fields.block(entries.into())?;
+    fields.finish()?;
+    Ok(Index { rows_per_bucket, columns, last_rows, buckets })
+}
+
+/// The free-space map, whose contents are not judged.
+fn pass_free_space(container: &mut Reader<'_>) -> Result<(), u8> {
+    let (_, mut fields) = container.object(b"SimpleOrderedMap", &[1])?;
+    fields.int()?; // default value
+    let pairs = fields.uint()? as usize;
+    fields.uint()?; // increment
+    fields.bytes(8 * pairs)?;
+    fields.finish()
+}

@@ -1,0 +1,205 @@
+//! Document 01's small file, written here byte by byte.
+
+use model::{DataType, Kind, answer, column, describe, listing};
+
+fn uint(number: u32) -> Vec<u8> {
+    number.to_be_bytes().to_vec()
+}
+
+fn string(text: &str) -> Vec<u8> {
+    [uint(text.len() as u32), text.as_bytes().to_vec()].concat()
+}
+
+/// An object's length counts itself, the name and version, and the fields.
+fn object(name: &str, version: u32, fields: &[Vec<u8>]) -> Vec<u8> {
+    let rest = [string(name), uint(version), fields.concat()].concat();
+    [uint(4 + rest.len() as u32), rest].concat()
+}
+
+/// The TableRecord without keywords, as Casacore writes it.
+fn record() -> Vec<u8> {
+    object("TableRecord", 1, &[object("RecordDesc", 2, &[uint(0)]), uint(1)])
+}
+
+fn scalar_column(data_type: &str, number: u32, name: &str, default: &[u8]) -> Vec<u8> {
+    [
+        uint(1), // ColumnDesc version
+        string(&format!("ScalarColumnDesc<{data_type}")),
+        uint(1), // BaseColumnDesc version
+        string(name),
+        string("a comment"),
+        string("StandardStMan"),
+        string("StandardStMan"),
+        uint(number), // data type
+        uint(0),      // options
+        uint(0),      // dimensionality
+        uint(0),      // string maximum
+        record(),
+        uint(1), // ScalarColumnDesc version
+        default.to_vec(),
+    ]
+    .concat()
+}
+
+fn column_info(name: &str) -> Vec<u8> {
+    [uint(2), string(name), uint(1), uint(0)].concat()
+}
+
+fn small_file() -> Vec<u8> {
+    let description = object(
+        "TableDesc",
+        2,
+        &[
+            string(""),
+            string(""),
+            string(""),
+            record(),
+            record(),
+            uint(3), // columns
+            scalar_column("Int     ", 5, "SCAN", &[0; 4]),
+            scalar_column("Bool", 0, "FLAG", &[0]),
+            scalar_column("double  ", 8, "TIME", &[0; 8]),
+        ],
+    );
+    let column_set = [
+        (-2_i32).to_be_bytes().to_vec(), // version
+        uint(7),                         // rows
+        uint(1),                         // highest sequence number
+        uint(1),                         // managers
+        string("StandardStMan"),
+        uint(0),
+        column_info("SCAN"),
+        column_info("FLAG"),
+        column_info("TIME"),
+        uint(24), // DMInfo: three sets, three offsets
+        [0, 0, 0, 0, 16, 17].map(u32::to_be_bytes).concat(),
+    ]
+    .concat();
+    let fields = [uint(7), uint(1), string("PlainTable"), description, column_set];
+    [vec![0xBE; 4], object("Table", 2, &fields)].concat()
+}
+
+/// The file after a change of the only place where these bytes stand.
+fn changed(old: &[u8], new: &[u8]) -> Vec<u8> {
+    let mut file = small_file();
+    let places: Vec<usize> =
+        (0..file.len()).filter(|place| file[*place..].starts_with(old)).collect();
+    assert_eq!((places.len(), old.len()), (1, new.len()));
+    file[places[0]..][..new.len()].copy_from_slice(new);
+    file
+}
+
+#[test]
+fn is_listed_as_in_document_01() {
+    let text = "rows 7 columns 3\n0 SCAN Int 1 0\n1 FLAG Bool 1 0\n2 TIME double 1 0\n";
+    assert_eq!(listing(&small_file()), text.as_bytes());
+}
+
+#[test]
+fn is_described() {
+    let file = small_file();
+    let description = describe(&file).unwrap();
+    assert_eq!((description.rows, description.big_endian), (7, true));
+    let columns: Vec<_> = description
+        .columns
+        .iter()
+        .map(|c| (c.name, c.data_type, c.elements, c.cell_bits, c.manager, c.set, c.offset))
+        .collect();
+    assert_eq!(
+        columns,
+        [
+            (&b"SCAN"[..], DataType::Int, 1, 32, 0, 0, 0),
+            (&b"FLAG"[..], DataType::Bool, 1, 1, 0, 0, 16),
+            (&b"TIME"[..], DataType::Double, 1, 64, 0, 0, 17),
+        ]
+    );
+    assert_eq!(description.managers.len(), 1);
+    assert_eq!(description.managers[0].number, 0);
+    assert_eq!(description.managers[0].name, b"StandardStMan");
+    assert_eq!(description.managers[0].kind, Kind::Standard);
+}
+
+#[test]
+fn has_its_columns_by_name() {
+    let file = small_file();
+    assert_eq!(column(&file, b"SCAN"), Ok(0));
+    assert_eq!(column(&file, b"TIME"), Ok(2));
+    assert_eq!(column(&file, b"TIM"), Err(8));
+    assert_eq!(column(&file, b"time"), Err(8));
+    assert_eq!(column(&file, b""), Err(8));
+    // The table comes before the column.
+    assert_eq!(column(&file[..100], b"TIM"), Err(1));
+}
+
+#[test]
+fn is_refused_at_every_prefix() {
+    let file = small_file();
+    for length in 0..file.len() {
+        assert_eq!(describe(&file[..length]).err(), Some(1));
+    }
+}
+
+#[test]
+fn is_refused_after_changes() {
+    let refusal = |old: &[u8], new: &[u8]| describe(&changed(old, new)).err();
+    assert_eq!(refusal(&[0xBE; 4], &[0xBE, 0xBE, 0xBE, 0xBF]), Some(2));
+    assert_eq!(refusal(b"PlainTable", b"plainTable"), Some(2));
+    assert_eq!(refusal(b"TableDesc\0\0\0\x02", b"TableDesc\0\0\0\x01"), Some(3));
+    assert_eq!(
+        refusal(b"\0\0\0\x03\0\0\0\x01\0\0\0\x19", b"\0\0\0\0\0\0\0\x01\0\0\0\x19"),
+        Some(4)
+    );
+    assert_eq!(refusal(b"<Int     ", b"<Int    >"), Some(5));
+    assert_eq!(refusal(b"<double  ", b"<Double  "), Some(5));
+    // ColumnSet's version, then its row count.
+    assert_eq!(refusal(&[255, 255, 255, 254], &[255, 255, 255, 253]), Some(3));
+    let rows = [255, 255, 255, 254, 0, 0, 0, 7];
+    assert_eq!(refusal(&rows, &[255, 255, 255, 254, 0, 0, 0, 8]), Some(6));
+    assert_eq!(refusal(&rows, &[255, 255, 255, 254, 128, 0, 0, 7]), Some(4));
+}
+
+#[test]
+fn has_at_most_65_536_bytes() {
+    let mut file = small_file();
+    file.resize(65_536, 0xBE);
+    assert!(describe(&file).is_ok());
+    file.push(0);
+    assert_eq!(describe(&file).err(), Some(4));
+    file[0] = 0; // nothing is read before
+    assert_eq!(describe(&file).err(), Some(4));
+}
+
+#[test]
+fn is_answered_in_lines() {
+    let table = model::hex::encode(&small_file());
+    assert_eq!(
+        answer(&format!("describe {table}")),
+        "ok rows=7 be=1 cols=[5343414e,Int,1,0,32;464c4147,Bool,1,0,1;54494d45,double,1,0,64] \
+         dms=[0,5374616e6461726453744d616e]"
+    );
+    assert_eq!(answer(&format!("column {table} 464c4147")), "ok 1");
+    assert_eq!(answer(&format!("column {table} -")), "refused 8");
+    assert_eq!(answer(&format!("listing {table}")), model::hex::encode(&listing(&small_file())));
+    assert_eq!(answer("listing -"), model::hex::encode(b"refused 1\n"));
+    assert_eq!(answer("describe bebebebf"), "refused 2");
+}
+
+#[test]
+fn lines_that_are_no_requests() {
+    for line in [
+        "",
+        "describe",
+        "describe ",
+        "describe be be",
+        "describe BE",
+        "describe b",
+        "describe bg",
+        "column be",
+        "listing",
+        "Describe be",
+        " describe be",
+        "describe be ",
+    ] {
+        assert_eq!(answer(line), "bad request", "{line:?}");
+    }
+}

@@ -1,0 +1,52 @@
+#!/bin/sh
+# Tests of these programs themselves: the unit tests, the model against itself,
+# and commands that give wrong answers, which `compare` must find.
+set -eu
+cd "$(dirname "$0")"
+: "${CARGO_TARGET_DIR:=$PWD/../../target/tests}"
+export CARGO_TARGET_DIR
+cargo test --release --offline --quiet
+cargo build --release --offline --quiet
+
+bin=$CARGO_TARGET_DIR/release
+model=$bin/model
+scratch=$(mktemp -d)
+trap 'rm -r "$scratch"' EXIT
+saved=$scratch/difference.txt
+
+# expect STATUS MESSAGE ARGUMENT...: compare ends with this status and says so.
+expect() {
+    status=0
+    wanted=$1 message=$2
+    shift 2
+    "$bin/compare" --save "$saved" "$@" >"$scratch/output" 2>&1 || status=$?
+    if [ "$status" != "$wanted" ] || ! grep -q -e "$message" "$scratch/output"; then
+        echo "selftest: compare $*: status $status instead of $wanted, or not '$message':" >&2
+        head -c 2000 "$scratch/output" >&2
+        exit 1
+    fi
+}
+
+expect 0 "no difference" --min 12000 --each 1..8 tables 1 12000 , large 1 20 , bad -- "$model"
+expect 0 "no difference" --min 3000 prefixes -- "$model"
+
+expect 1 "difference at request" tables 1 3000 -- sh -c "'$model' | sed 's/^refused 7/refused 1/'"
+# The saved request is the one with the difference.
+[ "$("$model" <"$saved")" = "refused 7" ]
+expect 1 "difference at request" prefixes -- sh -c "'$model' | sed 's/^ok rows=7/ok rows=8/'"
+expect 1 "no answer" tables 1 3000 -- sh -c "'$model' | head -n 5"
+expect 1 "no answer" tables 1 3000 -- true
+expect 1 "more than 100 answers" tables 1 100 -- sh -c "'$model'; echo ok"
+expect 1 "ended with" tables 1 100 -- sh -c "'$model'; exit 3"
+expect 1 "does not start" tables 1 100 -- "$scratch/none"
+expect 1 "are needed" --min 101 tables 1 100 -- "$model"
+expect 1 "did not occur: 9" --each 1..9 tables 1 3000 -- "$model"
+expect 2 "usage" tables -- "$model"
+
+# The same seed gives the same requests, and the samples are up to date.
+"$bin/requests" tables 1 200 >"$scratch/requests"
+"$bin/requests" tables 1 200 | cmp - "$scratch/requests"
+"$bin/requests" sample "$scratch/samples"
+diff -r "$scratch/samples" ../../samples
+
+echo "selftest: all passed"

@@ -1,0 +1,206 @@
+//! What the files of StandardStMan and IncrementalStMan have in common, field
+//! by field: Note 260, sections 3.4.2 and 3.4.3.
+//!
+//! As in [`crate::table`], every field is free. Numbers of the header are
+//! computed when the file is encoded, unless others are stated.
+
+use crate::encode::Encoder;
+use crate::rng::Rng;
+use crate::table::{Header, Table};
+
+/// The buckets follow the header's part of the file.
+pub const HEADER_ROOM: usize = 512;
+
+/// A table and the file of one of its managers.
+#[derive(Clone, Debug)]
+pub struct Subject<F> {
+    pub table: Table,
+    /// The manager's sequence number.
+    pub number: u32,
+    pub file: F,
+}
+
+impl<F> Subject<F> {
+    /// The positions of the manager's columns.
+    pub fn own_columns(&self) -> Vec<usize> {
+        let columns = self.table.columns().iter().enumerate();
+        columns.filter(|(_, c)| c.info.manager == self.number).map(|(index, _)| index).collect()
+    }
+}
+
+/// What questions need to know of a good file of either kind.
+pub trait BucketFile: Clone {
+    fn buckets(&self) -> &Buckets;
+    fn buckets_mut(&mut self) -> &mut Buckets;
+    /// The mark and the header's object.
+    fn header(&self) -> Vec<u8>;
+    fn encode(&self) -> Vec<u8>;
+    /// Rows at both sides of each border between buckets or values.
+    fn border_rows(&self) -> Vec<u32>;
+    /// The length of the index text; 0 where no room is needed.
+    fn index_length(&self) -> usize;
+    /// The plan of one of the manager's columns.
+    fn plan(&self, table: &Table, position: usize) -> [u64; 9];
+    /// The first bit and bit count of a cell of one of the manager's columns.
+    fn place(&self, table: &Table, position: usize, row: u32) -> (u64, u64);
+}
+
+/// A Block of numbers.
+#[derive(Clone, Debug)]
+pub struct Block {
+    pub header: Header,
+    /// The count, if it is stated other than it is.
+    pub count: Option<u32>,
+    pub elements: Vec<u32>,
+}
+
+impl Block {
+    pub fn new(elements: Vec<u32>) -> Self {
+        Self { header: Header::new("Block", 1), count: None, elements }
+    }
+
+    pub fn encode(&self, out: &mut Encoder) {
+        out.object(&self.header, |out| {
+            out.uint(self.count.unwrap_or(self.elements.len() as u32));
+            for element in &self.elements {
+                out.uint(*element);
+            }
+        });
+    }
+}
+
+/// Bytes of a bucket.
+#[derive(Clone, Debug)]
+pub struct Patch {
+    pub bucket: u32,
+    pub offset: usize,
+    pub bytes: Vec<u8>,
+}
+
+/// The first fields of a file's header, the buckets, and the free list.
+#[derive(Clone, Debug)]
+pub struct Buckets {
+    pub mark: [u8; 4],
+    pub header: Header,
+    pub big_endian: u8,
+    pub size: u32,
+    /// The bucket size, if it is stated other than it is.
+    pub stated_size: Option<u32>,
+    pub count: u32,
+    /// The number of buckets, if it is stated other than it is.
+    pub stated_count: Option<u32>,
+    pub cache_size: u32,
+    pub free: Vec<u32>,
+    /// The number of free buckets, if it is stated other than it is.
+    pub free_count: Option<u32>,
+    /// The first free bucket, if it is stated other than it is.
+    pub first_free: Option<i32>,
+    /// The seed of all bytes that no field stands in; zeros if there is none.
+    pub filler: Option<u64>,
+    /// Bytes that are written last.
+    pub patches: Vec<Patch>,
+    /// Bytes after the file's last part.
+    pub trailing: Vec<u8>,
+    /// Where the file is cut off, if it is.
+    pub torn_at: Option<usize>,
+}
+
+impl Buckets {
+    pub fn new(name: &str, version: u32, endianness: u32, size: u32, count: u32) -> Self {
+        Self {
+            mark: [0xBE; 4],
+            header: Header::new(name, version),
+            big_endian: endianness as u8,
+            size,
+            stated_size: None,
+            count,
+            stated_count: None,
+            cache_size: 1,
+            free: Vec::new(),
+            free_count: None,
+            first_free: None,
+            filler: None,
+            patches: Vec::new(),
+            trailing: Vec::new(),
+            torn_at: None,
+        }
+    }
+
+    /// Where a bucket starts.
+    pub fn start(&self, bucket: u32) -> usize {
+        HEADER_ROOM + bucket as usize * self.size as usize
+    }
+
+    /// A new bucket at the end.
+    pub fn add(&mut self) -> u32 {
+        self.count += 1;
+        self.count - 1
+    }
+
+    pub fn patch(&mut self, bucket: u32, offset: usize, bytes: &[u8]) {
+        self.patches.push(Patch { bucket, offset, bytes: bytes.to_vec() });
+    }
+
+    /// Another link in a bucket of the free list.
+    pub fn patch_link(&mut self, bucket: u32, link: i32) {
+        self.patch(bucket, 0, &link.to_be_bytes());
+    }
+
+    /// The file's first bytes and its buckets, with the free list.
+    pub fn blank(&self) -> Vec<u8> {
+        let length = self.start(self.count);
+        let mut bytes = match self.filler {
+            Some(seed) => Rng::new(seed, 0).bytes(length),
+            None => vec![0; length],
+        };
+        for (index, bucket) in self.free.iter().enumerate() {
+            let next = self.free.get(index + 1).map_or(-1, |next| *next as i32);
+            self.write(&mut bytes, *bucket, 0, &next.to_be_bytes());
+        }
+        bytes
+    }
+
+    /// Writes bytes into a bucket, as many as there is room for.
+    pub fn write(&self, file: &mut [u8], bucket: u32, offset: usize, bytes: &[u8]) {
+        let start = self.start(bucket) + offset.min(self.size as usize);
+        let length = bytes.len().min(self.start(bucket + 1) - start);
+        if let Some(place) = file.get_mut(start..start + length) {
+            place.copy_from_slice(&bytes[..length]);
+        }
+    }
+
+    /// The header's object: the fields that both kinds begin with, then the
+    /// others.
+    pub fn header(&self, others: impl FnOnce(&mut Encoder)) -> Vec<u8> {
+        let mut out = Encoder::default();
+        out.bytes(&self.mark);
+        out.object(&self.header, |out| {
+            out.bytes(&[self.big_endian]);
+            out.uint(self.stated_size.unwrap_or(self.size));
+            out.uint(self.stated_count.unwrap_or(self.count));
+            out.uint(self.cache_size);
+            others(out);
+        });
+        out.bytes
+    }
+
+    pub fn free_fields(&self, out: &mut Encoder) {
+        out.uint(self.free_count.unwrap_or(self.free.len() as u32));
+        out.int(self.first_free.unwrap_or(self.free.first().map_or(-1, |first| *first as i32)));
+    }
+
+    /// The whole file: the header over its first bytes, the changes that come
+    /// last, and what follows the buckets.
+    pub fn finish(&self, mut bytes: Vec<u8>, header: &[u8], after: &[u8]) -> Vec<u8> {
+        for patch in &self.patches {
+            self.write(&mut bytes, patch.bucket, patch.offset, &patch.bytes);
+        }
+        let length = header.len().min(bytes.len());
+        bytes[..length].copy_from_slice(&header[..length]);
+        bytes.extend_from_slice(after);
+        if let Some(length) = self.torn_at {
+            bytes.truncate(length);
+        }
+        bytes
+    }
+}

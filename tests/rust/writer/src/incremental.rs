@@ -1,0 +1,200 @@
+//! An IncrementalStMan file, field by field: Note 260, section 3.4.3.
+
+pub mod faults;
+pub mod generate;
+
+use crate::buckets::{Block, BucketFile, Buckets};
+use crate::cells;
+use crate::encode::{Encoder, Layout};
+use crate::table::{Header, Table};
+
+/// A bucket begins with the offset of its index; the data part follows it.
+pub const DATA_START: u32 = 4;
+
+#[derive(Clone, Debug)]
+pub struct IncrementalFile {
+    pub buckets: Buckets,
+    pub unique_column: u32,
+    pub index: Index,
+    /// The buckets that hold data, in the index's order.
+    pub data: Vec<DataBucket>,
+    /// The byte order of the numbers in the buckets.
+    pub is_big_endian: bool,
+}
+
+/// The ISMIndex.
+#[derive(Clone, Debug)]
+pub struct Index {
+    pub mark: [u8; 4],
+    pub header: Header,
+    /// The number of buckets, if it is stated other than it is.
+    pub count: Option<u32>,
+    pub first_rows: Block,
+    pub buckets: Block,
+}
+
+#[derive(Clone, Debug)]
+pub struct DataBucket {
+    pub number: u32,
+    /// The offset of the bucket's index, if it is stated other than it is.
+    pub index_offset: Option<u32>,
+    pub data: Vec<u8>,
+    /// For each of the manager's columns.
+    pub columns: Vec<Values>,
+}
+
+impl DataBucket {
+    /// The bytes that the offset, the data and the index take.
+    pub fn length(&self) -> usize {
+        let index: usize = self.columns.iter().map(Values::length).sum();
+        DATA_START as usize + self.data.len() + index
+    }
+}
+
+/// The values of a column in a bucket.
+#[derive(Clone, Debug, Default)]
+pub struct Values {
+    /// The number of values, if it is stated other than it is.
+    pub count: Option<u32>,
+    /// The first row of each, counted in the bucket.
+    pub starts: Vec<u32>,
+    /// Where each stands in the data part.
+    pub offsets: Vec<u32>,
+}
+
+impl Values {
+    fn length(&self) -> usize {
+        4 + 4 * self.starts.len() + 4 * self.offsets.len()
+    }
+}
+
+impl IncrementalFile {
+    /// A file whose data buckets hold the rows from each first row to the next;
+    /// the last of these is the row count.
+    pub fn new(
+        buckets: Buckets,
+        is_big_endian: bool,
+        first_rows: Vec<u32>,
+        data: Vec<DataBucket>,
+    ) -> Self {
+        let index = Index {
+            mark: [0xBE; 4],
+            header: Header::new("ISMIndex", 1),
+            count: None,
+            first_rows: Block::new(first_rows),
+            buckets: Block::new(data.iter().map(|bucket| bucket.number).collect()),
+        };
+        Self { buckets, unique_column: 0, index, data, is_big_endian }
+    }
+
+    /// What follows the buckets: the ISMIndex and the bytes after it.
+    pub fn index_layout(&self) -> Layout {
+        let mut out = Encoder::default();
+        out.bytes(&self.index.mark);
+        out.object(&self.index.header, |out| {
+            out.uint(self.index.count.unwrap_or(self.index.buckets.elements.len() as u32));
+            self.index.first_rows.encode(out);
+            self.index.buckets.encode(out);
+        });
+        out.bytes(&self.buckets.trailing);
+        out.layout()
+    }
+
+    /// The headers of the ISMIndex and its Blocks, in file order.
+    pub fn index_headers_mut(&mut self) -> Vec<&mut Header> {
+        let index = &mut self.index;
+        vec![&mut index.header, &mut index.first_rows.header, &mut index.buckets.header]
+    }
+
+    /// A number of a bucket.
+    pub fn number(&self, number: u32) -> [u8; 4] {
+        if self.is_big_endian { number.to_be_bytes() } else { number.to_le_bytes() }
+    }
+
+    fn encode_bucket(&self, bucket: &DataBucket) -> Vec<u8> {
+        let offset = bucket.index_offset.unwrap_or(DATA_START + bucket.data.len() as u32);
+        let mut bytes = self.number(offset).to_vec();
+        bytes.extend_from_slice(&bucket.data);
+        for values in &bucket.columns {
+            let count = values.count.unwrap_or(values.starts.len() as u32);
+            let numbers = [count].into_iter().chain(values.starts.iter().copied());
+            for number in numbers.chain(values.offsets.iter().copied()) {
+                bytes.extend(self.number(number));
+            }
+        }
+        bytes
+    }
+}
+
+impl BucketFile for IncrementalFile {
+    fn buckets(&self) -> &Buckets {
+        &self.buckets
+    }
+
+    fn buckets_mut(&mut self) -> &mut Buckets {
+        &mut self.buckets
+    }
+
+    fn header(&self) -> Vec<u8> {
+        self.buckets.header(|out| {
+            out.uint(self.unique_column);
+            self.buckets.free_fields(out);
+        })
+    }
+
+    fn encode(&self) -> Vec<u8> {
+        let mut bytes = self.buckets.blank();
+        for bucket in &self.data {
+            self.buckets.write(&mut bytes, bucket.number, 0, &self.encode_bucket(bucket));
+        }
+        self.buckets.finish(bytes, &self.header(), &self.index_layout().bytes)
+    }
+
+    fn border_rows(&self) -> Vec<u32> {
+        let mut rows = Vec::new();
+        for (bucket, first) in self.data.iter().zip(&self.index.first_rows.elements) {
+            let starts = bucket.columns.iter().flat_map(|values| &values.starts);
+            rows.extend(starts.map(|start| first.saturating_add(*start)));
+        }
+        let before: Vec<u32> = rows.iter().map(|row| row.saturating_sub(1)).collect();
+        rows.extend(before);
+        rows
+    }
+
+    fn index_length(&self) -> usize {
+        0
+    }
+
+    fn plan(&self, table: &Table, position: usize) -> [u64; 9] {
+        let column = &table.columns()[position];
+        [
+            position as u64,
+            column.info.manager.into(),
+            column.data_type as u64,
+            cells::elements(column),
+            8 * cells::extent(column, 1),
+            0,
+            0,
+            0,
+            self.buckets.size.into(),
+        ]
+    }
+
+    fn place(&self, table: &Table, position: usize, row: u32) -> (u64, u64) {
+        let column = &table.columns()[position];
+        let manager = column.info.manager;
+        let earlier = &table.columns()[..position];
+        let own = earlier.iter().filter(|column| column.info.manager == manager).count();
+        let mut place = None;
+        for (bucket, first) in self.data.iter().zip(&self.index.first_rows.elements) {
+            let values = &bucket.columns[own];
+            for (start, offset) in values.starts.iter().zip(&values.offsets) {
+                if first + start <= row {
+                    place = Some(self.buckets.start(bucket.number) as u64 + u64::from(*offset));
+                }
+            }
+        }
+        let byte = place.expect("some value is at or before the row") + u64::from(DATA_START);
+        (8 * byte, 8 * cells::extent(column, 1))
+    }
+}

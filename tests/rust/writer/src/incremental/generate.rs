@@ -1,0 +1,143 @@
+//! Pseudo random good tables with an IncrementalStMan file.
+
+use super::{DATA_START, DataBucket, IncrementalFile, Values};
+use crate::buckets::{Buckets, Subject};
+use crate::cells;
+use crate::lean;
+use crate::rng::Rng;
+use crate::table::{Column, STRING, Table};
+
+/// A table and its IncrementalStMan file, mostly of few and small buckets.
+pub fn subject(rng: &mut Rng) -> Subject<IncrementalFile> {
+    let columns = match rng.below(12) {
+        0 => 0,
+        1 => rng.within(5..=9),
+        _ => rng.within(1..=4),
+    };
+    let own = (0..columns).map(|_| lean::column(rng)).collect();
+    let rows = match rng.below(12) {
+        0 => 0,
+        1 => 1,
+        2 => rng.pick(&[2_147_483_647, 2_147_483_646, 0x0100_0000]),
+        3 => rng.uint() >> 1,
+        _ => rng.within(1..=40) as u32,
+    };
+    let endianness = rng.below(2) as u32;
+    let (managers, number) = lean::managers(rng, "IncrementalStMan");
+    let table = lean::table(rng, (rows, endianness), own, managers, number);
+    let most = match rng.below(4) {
+        0 => rows,
+        _ => rows.div_ceil(rng.within(1..=6) as u32),
+    };
+    let mut first_rows = vec![0];
+    for part in lean::parts(rng, rows, most.max(rows / 8).max(1)) {
+        first_rows.push(first_rows.last().unwrap_or(&0) + part);
+    }
+    let file = with_rows(rng, &table, number, first_rows);
+    Subject { table, number, file }
+}
+
+/// The file of the manager with this number: buckets with these first rows.
+fn with_rows(rng: &mut Rng, table: &Table, number: u32, first_rows: Vec<u32>) -> IncrementalFile {
+    let columns: Vec<&Column> =
+        table.columns().iter().filter(|column| column.info.manager == number).collect();
+    let mut data: Vec<DataBucket> =
+        first_rows.windows(2).map(|rows| data_bucket(rng, &columns, rows[1] - rows[0])).collect();
+    let needed = data.iter().map(DataBucket::length).max().unwrap_or(0).max(16);
+    // Often the fullest bucket is full to the last byte.
+    let slack = if rng.chance(1, 2) { 0 } else { rng.within(1..=30) };
+    let free = if rng.chance(2, 5) { 0 } else { rng.within(1..=4) };
+    let unused = if rng.chance(1, 2) { 0 } else { rng.within(1..=3) };
+    let count = data.len() + free + unused;
+    let mut numbers: Vec<u32> = (0..count as u32).collect();
+    if !rng.chance(1, 6) {
+        rng.shuffle(&mut numbers);
+    }
+    for (bucket, number) in data.iter_mut().zip(&numbers) {
+        bucket.number = *number;
+    }
+    let size = (needed + slack) as u32;
+    let mut buckets = Buckets::new("IncrementalStMan", 5, table.endianness, size, count as u32);
+    buckets.free = numbers.split_off(count - free);
+    buckets.filler = Some(rng.number());
+    buckets.cache_size = rng.pick(&[0, 1, 2, u32::MAX]);
+    if rng.chance(1, 8) {
+        let count = rng.within(1..=40);
+        buckets.trailing = rng.bytes(count);
+    }
+    let mut file = IncrementalFile::new(buckets, table.endianness == 1, first_rows, data);
+    file.unique_column = rng.pick(&[0, 1, 7, u32::MAX]);
+    file
+}
+
+/// A bucket of so many rows; its number is chosen later.
+fn data_bucket(rng: &mut Rng, columns: &[&Column], rows: u32) -> DataBucket {
+    let mut length = 0;
+    let mut values: Vec<Values> = Vec::with_capacity(columns.len());
+    for column in columns {
+        // A String has a length before its bytes.
+        let size = match column.data_type == STRING.number {
+            true => rng.within(4..=12),
+            false => cells::extent(column, 1) as usize,
+        };
+        let starts = starts(rng, rows, if size > 40 { 3 } else { 6 });
+        let mut offsets: Vec<u32> = Vec::new();
+        for _ in &starts {
+            // Values may be shared.
+            if !offsets.is_empty() && rng.chance(1, 10) {
+                offsets.push(rng.pick(&offsets));
+            } else {
+                offsets.push(length as u32);
+                length += size;
+            }
+        }
+        if rng.chance(1, 6) {
+            offsets.reverse();
+        }
+        values.push(Values { count: None, starts, offsets });
+    }
+    if rng.chance(1, 6) {
+        length += rng.within(1..=9);
+    }
+    // A String's offset may stand at the data's end.
+    for (column, values) in columns.iter().zip(&mut values) {
+        if column.data_type == STRING.number && rng.chance(1, 6) {
+            values.offsets.fill(length as u32);
+        }
+    }
+    DataBucket { number: 0, index_offset: None, data: rng.bytes(length), columns: values }
+}
+
+/// The first rows of at most `most` values: from 0, rising, below `rows`.
+fn starts(rng: &mut Rng, rows: u32, most: usize) -> Vec<u32> {
+    let count = match rng.below(5) {
+        0 => 1,
+        1 if rows as usize <= 2 * most => rows as usize, // a value for each row
+        _ => rng.within(1..=most.min(rows as usize)),
+    };
+    if count == rows as usize {
+        return (0..rows).collect();
+    }
+    let mut starts = vec![0];
+    while starts.len() < count {
+        let start = match rng.below(4) {
+            0 => rows - 1,
+            1 => starts[rng.below(starts.len())] + 1,
+            _ => rng.below(rows as usize) as u32,
+        };
+        if start < rows && !starts.contains(&start) {
+            starts.push(start);
+        }
+    }
+    starts.sort_unstable();
+    starts
+}
+
+/// The largest offset that a value of a column may have in this bucket.
+pub fn last_offset(column: &Column, bucket: &DataBucket) -> Option<u32> {
+    let data = bucket
+        .index_offset
+        .map_or(bucket.data.len() as u64, |offset| u64::from(offset.saturating_sub(DATA_START)));
+    let size = if column.data_type == STRING.number { 0 } else { cells::extent(column, 1) };
+    data.checked_sub(size).map(|offset| offset as u32)
+}

@@ -1,0 +1,22 @@
+//! A writer of good and faulty `table.dat` files, and sets of request lines
+//! about them.
+//!
+//! It knows the format from document 01 and Casacore Note 260 on its own and
+//! shares nothing with the model, so that one does not hide the other's
+//! mistakes. Everything pseudo random comes from fixed seeds.
+
+pub mod bucket_faults;
+pub mod buckets;
+pub mod cells;
+pub mod encode;
+pub mod faults;
+pub mod generate;
+pub mod incremental;
+pub mod lean;
+pub mod objects;
+pub mod record;
+pub mod rng;
+pub mod samples;
+pub mod sets;
+pub mod standard;
+pub mod table;

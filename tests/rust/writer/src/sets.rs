@@ -1,0 +1,306 @@
+//! Sets of request lines.
+
+use crate::encode::Layout;
+use crate::faults::{self, Expect, FAULTS, LARGE_FAULTS};
+use crate::generate;
+use crate::rng::Rng;
+use crate::samples;
+use crate::table::{BOOL, Column, INT, Manager, Record, Table};
+
+/// How to ask for a set, for usage texts.
+pub const USAGE: &str = "\
+tables SEED COUNT  generated questions about good tables and tables with faults
+prefixes           Description of every prefix of two good tables, as it is and
+                   with the lengths of cut objects cut too
+bytes              Description after every change of one byte of a small table
+large [SEED COUNT] tables of 64 columns and 16 managers, near 65,536 bytes
+bad                lines that are no requests";
+
+#[derive(Clone, Copy, Debug, PartialEq, Eq)]
+pub enum Set {
+    Tables { seed: u64, count: u64 },
+    Prefixes,
+    Bytes,
+    Large { seed: u64, count: u64 },
+    Bad,
+}
+
+pub type Lines = Box<dyn Iterator<Item = String> + Send>;
+
+impl Set {
+    /// The set that these words ask for.
+    pub fn parse(words: &[&str]) -> Result<Self, String> {
+        let number = |word: &str| word.parse().map_err(|_| format!("no number: {word}"));
+        Ok(match *words {
+            ["tables", seed, count] => Self::Tables { seed: number(seed)?, count: number(count)? },
+            ["prefixes"] => Self::Prefixes,
+            ["bytes"] => Self::Bytes,
+            ["large"] => Self::Large { seed: 1, count: 300 },
+            ["large", seed, count] => Self::Large { seed: number(seed)?, count: number(count)? },
+            ["bad"] => Self::Bad,
+            _ => return Err(format!("no set of requests: {}", words.join(" "))),
+        })
+    }
+
+    /// The set's request lines, without newlines; the same at every call.
+    pub fn lines(self) -> Lines {
+        match self {
+            Self::Tables { seed, count } => Box::new((0..count).map(move |number| {
+                let rng = &mut Rng::new(seed, number);
+                let case = case(rng);
+                question(rng, &case)
+            })),
+            Self::Prefixes => {
+                let tables = [samples::small(), samples::arrays()];
+                Box::new(tables.into_iter().flat_map(|table| prefixes(table.layout())))
+            }
+            Self::Bytes => Box::new(changes(&tiny().encode())),
+            Self::Large { seed, count } => Box::new((0..count).map(move |number| {
+                let rng = &mut Rng::new(seed, number);
+                let case = large_case(rng);
+                question(rng, &case)
+            })),
+            Self::Bad => Box::new(bad().into_iter()),
+        }
+    }
+}
+
+/// A `table.dat` and what a reader must answer.
+#[derive(Clone, Debug)]
+pub struct Case {
+    pub bytes: Vec<u8>,
+    pub expect: Expect,
+    /// The fault's name.
+    pub what: &'static str,
+    /// The column names of the table, or of what it was made from.
+    pub names: Vec<Vec<u8>>,
+}
+
+impl Case {
+    fn new(table: &Table, expect: Expect, what: &'static str) -> Self {
+        let names = table.columns().iter().map(|column| column.name.bytes.clone()).collect();
+        Self { bytes: table.encode(), expect, what, names }
+    }
+}
+
+/// A good table, or one with a fault or more.
+pub fn case(rng: &mut Rng) -> Case {
+    let mut table = generate::table(rng);
+    match rng.below(300) {
+        0..=59 => Case::new(&table, Expect::Accepted, "none"),
+        60..=221 => single_fault(rng, &mut table),
+        222..=257 => {
+            faults::freeze_lengths(rng, &mut table);
+            let (_, fault) = rng.pick(FAULTS);
+            fault(rng, &mut table);
+            Case::new(&table, Expect::Open, "fault with lengths that do not follow")
+        }
+        258..=275 => {
+            let (_, first) = rng.pick(FAULTS);
+            first(rng, &mut table);
+            if !table.columns().is_empty() && !table.managers().is_empty() {
+                let (_, second) = rng.pick(FAULTS);
+                second(rng, &mut table);
+            }
+            Case::new(&table, Expect::Open, "two faults")
+        }
+        276..=293 => {
+            let mut case = Case::new(&table, Expect::Open, "changed bytes");
+            change_bytes(rng, &mut case.bytes);
+            case
+        }
+        294..=298 => {
+            let mut case = Case::new(&table, Expect::Open, "any bytes");
+            let kept = rng.pick(&[0, 4, 8, 17, 21]);
+            case.bytes.truncate(kept);
+            let count = rng.below(300);
+            case.bytes.extend(rng.bytes(count));
+            case
+        }
+        _ => {
+            let (what, fault) = rng.pick(LARGE_FAULTS);
+            let expect = fault(rng, &mut table);
+            Case::new(&table, expect, what)
+        }
+    }
+}
+
+fn single_fault(rng: &mut Rng, table: &mut Table) -> Case {
+    let (what, fault) = rng.pick(FAULTS);
+    let expect = fault(rng, table);
+    let case = Case::new(table, expect, what);
+    if case.bytes.len() > 65_536 {
+        return Case { expect: Expect::Refused(4), ..case };
+    }
+    case
+}
+
+/// A table of 64 columns and 16 managers, near 65,536 bytes; often with a
+/// fault.
+pub fn large_case(rng: &mut Rng) -> Case {
+    let mut table = generate::table_of(rng, 64, 16);
+    let length = if rng.chance(1, 3) { 65_536 } else { rng.within(65_000..=65_535) };
+    generate::grow(rng, &mut table, length);
+    if rng.chance(2, 5) {
+        return Case::new(&table, Expect::Accepted, "none");
+    }
+    single_fault(rng, &mut table)
+}
+
+/// Changes, removes or inserts a few bytes anywhere.
+fn change_bytes(rng: &mut Rng, bytes: &mut Vec<u8>) {
+    let length = bytes.len();
+    for _ in 0..rng.within(1..=3) {
+        let index = rng.below(bytes.len());
+        match rng.below(6) {
+            0 => bytes[index] = rng.byte(),
+            1 => bytes[index] ^= 1 << rng.below(8),
+            2 => bytes[index] = bytes[index].wrapping_add(1),
+            3 => bytes[index] = rng.pick(&[0, 1, 2, 255]),
+            4 => {
+                let end = bytes.len().min(index + rng.within(1..=8));
+                bytes.drain(index..end);
+            }
+            _ => {
+                let count = rng.within(1..=8);
+                let inserted = rng.bytes(count);
+                bytes.splice(index..index, inserted);
+            }
+        }
+    }
+    // The Table object's length may follow what was removed or inserted.
+    if bytes.len() >= 8 && rng.chance(1, 2) {
+        let table_length = u32::from_be_bytes([bytes[4], bytes[5], bytes[6], bytes[7]]);
+        let changed = table_length.wrapping_add(bytes.len() as u32).wrapping_sub(length as u32);
+        bytes[4..8].copy_from_slice(&changed.to_be_bytes());
+    }
+}
+
+/// A question about the case's table.
+fn question(rng: &mut Rng, case: &Case) -> String {
+    let table = hex(&case.bytes);
+    match rng.below(8) {
+        0..=3 => format!("describe {table}"),
+        4..=5 => format!("listing {table}"),
+        _ => format!("column {table} {}", hex(&asked_name(rng, case))),
+    }
+}
+
+/// A column name to ask for, often one that is there.
+fn asked_name(rng: &mut Rng, case: &Case) -> Vec<u8> {
+    let mut name = match case.names.len() {
+        0 => b"TIME".to_vec(),
+        count => case.names[rng.below(count)].clone(),
+    };
+    match rng.below(12) {
+        0 => name.clear(),
+        1 => drop(name.pop()),
+        2 => name.push(b' '),
+        3 => name.make_ascii_lowercase(),
+        4 => name = b"NO_SUCH_COLUMN".to_vec(),
+        _ => {}
+    }
+    name
+}
+
+/// Every prefix as it is, and with the lengths of the objects that it cuts off
+/// cut too, so that a reader gets as far as there are fields.
+fn prefixes(layout: Layout) -> impl Iterator<Item = String> + Send {
+    let digits = hex(&layout.bytes);
+    (0..=layout.bytes.len()).flat_map(move |length| {
+        if length == 0 {
+            return vec!["describe -".to_string()];
+        }
+        let torn = format!("describe {}", &digits[..2 * length]);
+        let mut bytes = layout.bytes[..length].to_vec();
+        for object in &layout.objects {
+            if object.start + 4 <= length && length < object.end {
+                let left = (length - object.start) as u32;
+                bytes[object.start..object.start + 4].copy_from_slice(&left.to_be_bytes());
+            }
+        }
+        vec![torn, format!("describe {}", hex(&bytes))]
+    })
+}
+
+/// A small table of a scalar and an array.
+pub fn tiny() -> Table {
+    let array = Column::direct(BOOL, "F", &[2, 3]).at(0, 16);
+    let columns = [Column::scalar(INT, "S"), array].map(|column| Column {
+        manager_type: "".into(),
+        manager_group: "".into(),
+        ..column.keywords(Record::new(Vec::new()))
+    });
+    let mut table = Table::new(7, 1, columns.into(), vec![Manager::new("StandardStMan", 0)]);
+    table.description.private_keywords = Record::new(Vec::new());
+    table
+}
+
+/// Every change of one byte to one of the 255 other values.
+fn changes(bytes: &[u8]) -> impl Iterator<Item = String> + Send + use<> {
+    let bytes = bytes.to_vec();
+    let good = format!("describe {}", hex(&bytes));
+    let start = good.len() - 2 * bytes.len();
+    (0..bytes.len()).flat_map(move |index| {
+        let good = good.clone();
+        let byte = bytes[index];
+        (0..=255).filter(move |value| *value != byte).map(move |value| {
+            let digits = start + 2 * index;
+            let mut line = good.clone();
+            line.replace_range(digits..digits + 2, &hex(&[value]));
+            line
+        })
+    })
+}
+
+/// A wrong word, a wrong number of fields, fields that are not bytes.
+fn bad() -> Vec<String> {
+    let mut lines: Vec<String> = [
+        "",
+        "-",
+        "describe",
+        "describe - -",
+        "Describe -",
+        "describes -",
+        "describe bebebebe bebebebe",
+        "describe b",
+        "describe beb",
+        "describe BEBEBEBE",
+        "describe beBe",
+        "describe bg",
+        "describe 0x",
+        "describe --",
+        "describe -0",
+        "describe 0-",
+        "column",
+        "column -",
+        "column - - -",
+        "column be 4",
+        "column b 41",
+        "column be 4A",
+        "column be ~~",
+        "listing",
+        "listing - -",
+        "listing 0",
+        "listing 0G",
+        "list -",
+        "rows -",
+    ]
+    .map(String::from)
+    .into();
+    let good = hex(&tiny().encode());
+    lines.push(format!("describe {good}0"));
+    lines.push(format!("describe {}", good.to_uppercase()));
+    lines.push(format!("column {good}"));
+    lines.push(format!("column {good} 5"));
+    lines
+}
+
+/// Bytes in a request line.
+pub fn hex(bytes: &[u8]) -> String {
+    if bytes.is_empty() {
+        return "-".to_string();
+    }
+    let digit = |value: u8| char::from(b"0123456789abcdef"[usize::from(value)]);
+    bytes.iter().flat_map(|byte| [digit(byte >> 4), digit(byte & 15)]).collect()
+}

@@ -1,0 +1,257 @@
+//! A StandardStMan file, field by field: Note 260, section 3.4.2.
+
+pub mod faults;
+pub mod generate;
+
+use crate::buckets::{Block, BucketFile, Buckets};
+use crate::cells;
+use crate::encode::{Encoder, Layout};
+use crate::table::{Header, Table};
+
+/// An index bucket of a chain begins with the next number, twice.
+pub const LINKS: usize = 8;
+
+#[derive(Clone, Debug)]
+pub struct StandardFile {
+    pub buckets: Buckets,
+    /// The chain of index buckets; one if there is an index offset.
+    pub index_chain: Vec<u32>,
+    /// Whether index buckets are added for a text that the chain does not hold.
+    pub chain_grows: bool,
+    /// The number of index buckets, if it is stated other than it is.
+    pub index_buckets: Option<u32>,
+    /// The first index bucket, if it is stated other than it is.
+    pub first_index: Option<i32>,
+    pub index_offset: u32,
+    pub last_heap: i32,
+    /// The length of the index text, if it is stated other than it is.
+    pub index_length: Option<u32>,
+    /// The number of indices, if it is stated other than it is.
+    pub index_count: Option<u32>,
+    /// One for each set of columns.
+    pub indices: Vec<Index>,
+    /// Bytes of the index text after the last index.
+    pub text_after: Vec<u8>,
+}
+
+/// An SSMIndex.
+#[derive(Clone, Debug)]
+pub struct Index {
+    pub mark: [u8; 4],
+    pub header: Header,
+    /// The number of entries, if it is stated other than it is.
+    pub entries: Option<u32>,
+    pub rows_per_bucket: u32,
+    pub columns: i32,
+    pub free_space: FreeSpace,
+    pub last_rows: Block,
+    pub buckets: Block,
+}
+
+impl Index {
+    /// The entries are a last row and a bucket each.
+    pub fn new(rows_per_bucket: u32, columns: usize, entries: &[(u32, u32)]) -> Self {
+        Self {
+            mark: [0xBE; 4],
+            header: Header::new("SSMIndex", 1),
+            entries: None,
+            rows_per_bucket,
+            columns: columns as i32,
+            free_space: FreeSpace::new(Vec::new()),
+            last_rows: Block::new(entries.iter().map(|(last, _)| *last).collect()),
+            buckets: Block::new(entries.iter().map(|(_, bucket)| *bucket).collect()),
+        }
+    }
+
+    fn encode(&self, out: &mut Encoder) {
+        out.bytes(&self.mark);
+        out.object(&self.header, |out| {
+            out.uint(self.entries.unwrap_or(self.last_rows.elements.len() as u32));
+            out.uint(self.rows_per_bucket);
+            out.int(self.columns);
+            self.free_space.encode(out);
+            self.last_rows.encode(out);
+            self.buckets.encode(out);
+        });
+    }
+}
+
+/// The free-space map: a SimpleOrderedMap of offsets and lengths.
+#[derive(Clone, Debug)]
+pub struct FreeSpace {
+    pub header: Header,
+    pub default: i32,
+    /// The number of pairs, if it is stated other than it is.
+    pub count: Option<u32>,
+    pub increment: u32,
+    pub pairs: Vec<(i32, i32)>,
+}
+
+impl FreeSpace {
+    pub fn new(pairs: Vec<(i32, i32)>) -> Self {
+        let header = Header::new("SimpleOrderedMap", 1);
+        Self { header, default: 0, count: None, increment: 16, pairs }
+    }
+
+    fn encode(&self, out: &mut Encoder) {
+        out.object(&self.header, |out| {
+            out.int(self.default);
+            out.uint(self.count.unwrap_or(self.pairs.len() as u32));
+            out.uint(self.increment);
+            for (offset, length) in &self.pairs {
+                out.int(*offset);
+                out.int(*length);
+            }
+        });
+    }
+}
+
+impl StandardFile {
+    /// A file whose index is in a chain of buckets.
+    pub fn new(buckets: Buckets, index_chain: Vec<u32>, indices: Vec<Index>) -> Self {
+        Self {
+            buckets,
+            index_chain,
+            chain_grows: true,
+            index_buckets: None,
+            first_index: None,
+            index_offset: 0,
+            last_heap: -1,
+            index_length: None,
+            index_count: None,
+            indices,
+            text_after: Vec::new(),
+        }
+    }
+
+    /// The index text, and where its objects stand.
+    pub fn text(&self) -> Layout {
+        let mut out = Encoder::default();
+        for index in &self.indices {
+            index.encode(&mut out);
+        }
+        out.bytes(&self.text_after);
+        out.layout()
+    }
+
+    /// The headers of the text's objects, in file order.
+    pub fn text_headers_mut(&mut self) -> Vec<&mut Header> {
+        let mut headers = Vec::new();
+        for index in &mut self.indices {
+            headers.push(&mut index.header);
+            headers.push(&mut index.free_space.header);
+            headers.push(&mut index.last_rows.header);
+            headers.push(&mut index.buckets.header);
+        }
+        headers
+    }
+
+    /// The bytes of text that the index buckets hold.
+    pub fn text_room(&self) -> usize {
+        let size = self.buckets.size as usize;
+        match self.index_offset as usize {
+            0 => self.index_chain.len() * (size - LINKS),
+            offset => size.saturating_sub(offset),
+        }
+    }
+
+    /// Makes room for the text: more index buckets, or a chain if the one
+    /// bucket is too small.
+    pub fn settle(&mut self) {
+        let length = self.text().bytes.len();
+        if !self.chain_grows || length <= self.text_room() {
+            return;
+        }
+        self.index_offset = 0;
+        while self.text_room() < length {
+            let bucket = self.buckets.add();
+            self.index_chain.push(bucket);
+        }
+    }
+
+    fn put_text(&self, bytes: &mut [u8], text: &[u8]) {
+        if self.index_offset > 0 {
+            if let [bucket, ..] = self.index_chain[..] {
+                self.buckets.write(bytes, bucket, self.index_offset as usize, text);
+            }
+            return;
+        }
+        let mut parts = text.chunks(self.buckets.size as usize - LINKS);
+        for (index, bucket) in self.index_chain.iter().enumerate() {
+            let next = self.index_chain.get(index + 1).map_or(-1, |next| *next as i32);
+            self.buckets.write(bytes, *bucket, 0, &[next.to_be_bytes(); 2].concat());
+            self.buckets.write(bytes, *bucket, LINKS, parts.next().unwrap_or_default());
+        }
+    }
+}
+
+impl BucketFile for StandardFile {
+    fn buckets(&self) -> &Buckets {
+        &self.buckets
+    }
+
+    fn buckets_mut(&mut self) -> &mut Buckets {
+        &mut self.buckets
+    }
+
+    fn header(&self) -> Vec<u8> {
+        self.buckets.header(|out| {
+            self.buckets.free_fields(out);
+            out.uint(self.index_buckets.unwrap_or(self.index_chain.len() as u32));
+            let first = self.index_chain.first().map_or(-1, |first| *first as i32);
+            out.int(self.first_index.unwrap_or(first));
+            out.uint(self.index_offset);
+            out.int(self.last_heap);
+            out.uint(self.index_length() as u32);
+            out.uint(self.index_count.unwrap_or(self.indices.len() as u32));
+        })
+    }
+
+    fn encode(&self) -> Vec<u8> {
+        let mut file = self.clone();
+        file.settle();
+        let mut bytes = file.buckets.blank();
+        file.put_text(&mut bytes, &file.text().bytes);
+        file.buckets.finish(bytes, &file.header(), &file.buckets.trailing)
+    }
+
+    fn border_rows(&self) -> Vec<u32> {
+        let last_rows = self.indices.iter().flat_map(|index| &index.last_rows.elements);
+        last_rows.flat_map(|last| [*last, last.saturating_add(1)]).collect()
+    }
+
+    fn index_length(&self) -> usize {
+        self.index_length.map_or_else(|| self.text().bytes.len(), |length| length as usize)
+    }
+
+    fn plan(&self, table: &Table, position: usize) -> [u64; 9] {
+        let column = &table.columns()[position];
+        let index = &self.indices[column.info.set as usize];
+        [
+            position as u64,
+            column.info.manager.into(),
+            column.data_type as u64,
+            cells::elements(column),
+            cells::bits(column),
+            column.info.set.into(),
+            column.info.offset.into(),
+            index.rows_per_bucket.into(),
+            self.buckets.size.into(),
+        ]
+    }
+
+    fn place(&self, table: &Table, position: usize, row: u32) -> (u64, u64) {
+        let column = &table.columns()[position];
+        let index = &self.indices[column.info.set as usize];
+        let mut first_row = 0;
+        for (last, bucket) in index.last_rows.elements.iter().zip(&index.buckets.elements) {
+            if row <= *last {
+                let byte = self.buckets.start(*bucket) as u64 + u64::from(column.info.offset);
+                let bits = cells::bits(column);
+                return (8 * byte + u64::from(row - first_row) * bits, bits);
+            }
+            first_row = last + 1;
+        }
+        panic!("row {row} is in no bucket")
+    }
+}

@@ -1,0 +1,208 @@
+//! Pseudo random good tables with a StandardStMan file.
+
+use super::{FreeSpace, Index, LINKS, StandardFile};
+use crate::buckets::{Buckets, Subject};
+use crate::cells;
+use crate::lean;
+use crate::rng::Rng;
+use crate::table::Column;
+
+/// What a set of columns needs.
+struct Set {
+    columns: Vec<Column>,
+    rows_per_bucket: u32,
+    /// Where the last extent ends.
+    end: u32,
+}
+
+/// A table and its StandardStMan file, mostly of few rows and small buckets.
+pub fn subject(rng: &mut Rng) -> Subject<StandardFile> {
+    if rng.chance(1, 150) {
+        return many_rows(rng);
+    }
+    let count = match rng.below(20) {
+        0..=11 => 1,
+        12..=18 => rng.within(2..=4),
+        _ => rng.within(5..=16),
+    };
+    let mut sets: Vec<Set> = (0..count).map(|_| set(rng, count)).collect();
+    if rng.chance(1, 40) {
+        sets.iter_mut().for_each(|set| set.columns.clear());
+    }
+    let least = sets.iter().map(|set| set.rows_per_bucket).min().unwrap_or(1);
+    let rows = match rng.below(12) {
+        0 => 0,
+        1 => 1,
+        2 => least,
+        3 => least + 1,
+        _ => rng.within(1..=30.min(5 * least as usize)) as u32,
+    };
+    with_sets(rng, rows, sets)
+}
+
+/// A set of columns whose extents follow each other in any order, some with
+/// gaps between them.
+fn set(rng: &mut Rng, sets: usize) -> Set {
+    let columns = match rng.below(8) {
+        0 => 0,
+        1..=5 => rng.within(1..=3),
+        _ => rng.within(1..=if sets > 4 { 3 } else { 6 }),
+    };
+    let mut columns: Vec<Column> = (0..columns).map(|_| lean::column(rng)).collect();
+    let row_bytes: u64 = columns.iter().map(|column| cells::extent(column, 1)).sum();
+    let rows_per_bucket = match rng.below(10) {
+        _ if row_bytes > 60 => rng.within(1..=3),
+        0 => 1,
+        1 => 8,
+        2 => 16,
+        3 if columns.is_empty() => rng.pick(&[8_388_607, 8_388_608]),
+        _ => rng.within(2..=9),
+    } as u32;
+    let end = lay_out(rng, &mut columns, rows_per_bucket);
+    Set { columns, rows_per_bucket, end }
+}
+
+/// Gives the columns their offsets; gives the end of the last extent.
+fn lay_out(rng: &mut Rng, columns: &mut [Column], rows_per_bucket: u32) -> u32 {
+    let gap = |rng: &mut Rng| if rng.chance(1, 8) { rng.within(1..=5) as u32 } else { 0 };
+    let mut order: Vec<usize> = (0..columns.len()).collect();
+    if rng.chance(1, 2) {
+        rng.shuffle(&mut order);
+    }
+    let mut end = 0;
+    for index in order {
+        let column = &mut columns[index];
+        column.info.offset = end + gap(rng);
+        end = column.info.offset + cells::extent(column, rows_per_bucket) as u32;
+    }
+    end
+}
+
+/// Rows up to the limit, in a set without columns.
+fn many_rows(rng: &mut Rng) -> Subject<StandardFile> {
+    let rows = rng.pick(&[2_147_483_647, 2_147_483_646, 1 << 30]);
+    let set = Set { columns: Vec::new(), rows_per_bucket: 8_388_608, end: 0 };
+    with_sets(rng, rows, vec![set])
+}
+
+/// The table and file of these sets.
+fn with_sets(rng: &mut Rng, rows: u32, sets: Vec<Set>) -> Subject<StandardFile> {
+    let endianness = rng.below(2) as u32;
+    let least_size = sets.iter().map(|set| set.end).max().unwrap_or(0).max(16);
+    let mut columns = Vec::new();
+    let mut indices = Vec::new();
+    for (number, set) in sets.into_iter().enumerate() {
+        // A few rows more than fit are too many entries to be deleted from.
+        let spans = match rows {
+            0..=100_000 => lean::parts(rng, rows, set.rows_per_bucket),
+            _ => full_parts(rows, set.rows_per_bucket),
+        };
+        let mut next = 0;
+        let entries: Vec<(u32, u32)> = spans
+            .into_iter()
+            .map(|span| {
+                next += span;
+                (next - 1, 0)
+            })
+            .collect();
+        let mut index = Index::new(set.rows_per_bucket, set.columns.len(), &entries);
+        index.free_space = free_space(rng);
+        indices.push(index);
+        columns.extend(set.columns.into_iter().map(|column| {
+            let offset = column.info.offset;
+            column.at(number as u32, offset)
+        }));
+    }
+    let (managers, number) = lean::managers(rng, "StandardStMan");
+    let table = lean::table(rng, (rows, endianness), columns, managers, number);
+    // Columns beyond the 64th were left out.
+    for (set, index) in indices.iter_mut().enumerate() {
+        let columns = table.columns().iter();
+        let own = columns.filter(|c| c.info.manager == number && c.info.set == set as u32);
+        index.columns = own.count() as i32;
+    }
+    let buckets = Buckets::new("StandardStMan", 3, endianness, 16, 0);
+    let mut file = StandardFile::new(buckets, Vec::new(), indices);
+    place_buckets(rng, &mut file, least_size);
+    fill(rng, &mut file);
+    Subject { table, number, file }
+}
+
+/// Full buckets only.
+fn full_parts(rows: u32, most: u32) -> Vec<u32> {
+    let mut parts = vec![most; (rows / most) as usize];
+    if rows % most > 0 {
+        parts.push(rows % most);
+    }
+    parts
+}
+
+fn free_space(rng: &mut Rng) -> FreeSpace {
+    let count = rng.pick(&[0, 0, 0, 1, 2, 5]);
+    let any = |rng: &mut Rng| {
+        if rng.chance(1, 4) { rng.uint() as i32 } else { rng.below(64) as i32 }
+    };
+    let pairs = (0..count).map(|_| (any(rng), any(rng))).collect();
+    FreeSpace { default: any(rng), increment: any(rng) as u32, ..FreeSpace::new(pairs) }
+}
+
+/// Chooses the bucket size and the index's buckets, and gives all buckets
+/// their numbers, in any order.
+fn place_buckets(rng: &mut Rng, file: &mut StandardFile, least_size: u32) {
+    let length = file.text().bytes.len();
+    let links = LINKS as u32;
+    let whole = links + length as u32;
+    let slack = |rng: &mut Rng| if rng.chance(1, 2) { 0 } else { rng.within(1..=40) as u32 };
+    let mut index_buckets = 1;
+    if least_size.max(whole) <= 700 && rng.chance(1, 4) {
+        // At an offset.
+        let size = least_size.max(whole) + slack(rng);
+        let last = size - length as u32;
+        file.buckets.size = size;
+        file.index_offset = match rng.below(3) {
+            0 => links,
+            1 => last,
+            _ => rng.within(LINKS..=last as usize) as u32,
+        };
+    } else {
+        // In a chain, which the text may fill exactly.
+        let divisors: Vec<u32> = (1..=8)
+            .filter(|part| length as u32 % part == 0 && links + length as u32 / part >= least_size)
+            .collect();
+        file.buckets.size = if !divisors.is_empty() && rng.chance(1, 3) {
+            links + length as u32 / rng.pick(&divisors)
+        } else {
+            least_size + slack(rng)
+        };
+        index_buckets = length.div_ceil(file.buckets.size as usize - LINKS);
+        if rng.chance(1, 8) {
+            index_buckets += rng.within(1..=2);
+        }
+    }
+    let free = if rng.chance(2, 5) { 0 } else { rng.within(1..=4) };
+    let unused = if rng.chance(1, 2) { 0 } else { rng.within(1..=3) };
+    let data: usize = file.indices.iter().map(|index| index.buckets.elements.len()).sum();
+    let count = index_buckets + free + data + unused;
+    let mut numbers: Vec<u32> = (0..count as u32).collect();
+    if !rng.chance(1, 6) {
+        rng.shuffle(&mut numbers);
+    }
+    let mut take = |count: usize| numbers.split_off(numbers.len() - count);
+    for index in &mut file.indices {
+        index.buckets.elements = take(index.buckets.elements.len());
+    }
+    file.index_chain = take(index_buckets);
+    file.buckets.free = take(free);
+    file.buckets.count = count as u32;
+}
+
+/// The fields that are not judged.
+fn fill(rng: &mut Rng, file: &mut StandardFile) {
+    file.buckets.filler = Some(rng.number());
+    file.buckets.cache_size = rng.pick(&[0, 1, 2, u32::MAX]);
+    file.last_heap = rng.pick(&[-1, -1, 0, 7, i32::MAX, i32::MIN]);
+    if rng.chance(1, 8) {
+        let count = rng.within(1..=40);
+        file.buckets.trailing = rng.bytes(count);
+    }
+}

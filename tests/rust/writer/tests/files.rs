@@ -1,0 +1,118 @@
+//! What the writer expects of each file it makes, against the model.
+
+use writer::bucket_faults::{Fault, two_faults};
+use writer::buckets::{BucketFile, Subject};
+use writer::objects::Expect;
+use writer::rng::Rng;
+use writer::table::{BOOL, STRING};
+use writer::{incremental, standard};
+
+const ROOM: usize = 65_536;
+
+/// The model's answer to the check: 0 for an accepted file.
+fn refusal<F: BucketFile>(subject: &Subject<F>) -> u8 {
+    let (table, file) = (subject.table.encode(), subject.file.encode());
+    let mut room = vec![0xA5; ROOM];
+    let answer = model::check(&table, subject.number.into(), &file, &mut room);
+    if answer.is_err() {
+        assert!(room.iter().all(|byte| *byte == 0));
+    }
+    answer.err().unwrap_or(0)
+}
+
+fn assert_answer<F: BucketFile>(subject: &Subject<F>, expect: Expect, what: &str, number: u64) {
+    let expected = match expect {
+        Expect::Accepted => 0,
+        Expect::Refused(refusal) => refusal,
+        Expect::Open => return,
+    };
+    assert_eq!(refusal(subject), expected, "{what}, case {number}");
+}
+
+/// A good file is accepted, and every cell is where the writer put it.
+fn assert_cells<F: BucketFile>(subject: &Subject<F>, number: u64, is_standard: bool) {
+    assert_eq!(refusal(subject), 0, "case {number}");
+    let table = subject.table.encode();
+    let file = subject.file.encode();
+    let length = subject.file.index_length();
+    let mut room = vec![0xA5; length];
+    let mut rows = subject.file.border_rows();
+    rows.extend([0, 1, subject.table.rows / 2, subject.table.rows.wrapping_sub(1)]);
+    rows.retain(|row| *row < subject.table.rows);
+    for position in subject.own_columns() {
+        let column = &subject.table.columns()[position];
+        let fields = model::plan(&table, &file, position as u64, &mut room).map(|plan| {
+            [
+                plan.position,
+                plan.manager,
+                plan.data_type,
+                plan.elements,
+                plan.cell_bits,
+                plan.set,
+                plan.offset,
+                plan.rows_per_bucket,
+                plan.bucket_size,
+            ]
+        });
+        let position = position as u64;
+        if !is_standard && column.data_type == STRING.number {
+            assert_eq!(fields, Err(8), "case {number}");
+            assert_eq!(model::place(&table, &file, 0, position, &mut room), Err(8));
+            continue;
+        }
+        assert_eq!(fields, Ok(subject.file.plan(&subject.table, position as usize)));
+        for row in &rows {
+            let (first, bits) = subject.file.place(&subject.table, position as usize, *row);
+            let row = u64::from(*row);
+            let place = model::place(&table, &file, row, position, &mut room);
+            assert_eq!(place, Ok((first, bits)), "case {number}, row {row}");
+            let view = model::view(&table, &file, row, position, &mut room);
+            if is_standard && column.data_type == BOOL.number {
+                assert_eq!(view, Err(14));
+            } else {
+                assert_eq!(view.unwrap(), &file[first as usize / 8..][..bits as usize / 8]);
+            }
+        }
+    }
+}
+
+#[test]
+fn standard_cells_are_where_they_were_put() {
+    for number in 0..600 {
+        assert_cells(&standard::generate::subject(&mut Rng::new(31, number)), number, true);
+    }
+}
+
+#[test]
+fn incremental_cells_are_where_they_were_put() {
+    for number in 0..600 {
+        assert_cells(&incremental::generate::subject(&mut Rng::new(32, number)), number, false);
+    }
+}
+
+fn assert_faults<F: BucketFile>(faults: &[Fault<F>], generate: fn(&mut Rng) -> Subject<F>) {
+    for fault in faults {
+        for number in 0..200 {
+            let rng = &mut Rng::new(33, number);
+            let mut subject = generate(rng);
+            let expect = (fault.apply)(rng, &mut subject);
+            assert_answer(&subject, expect, fault.name, number);
+        }
+    }
+    for number in 0..40000 {
+        let rng = &mut Rng::new(34, number);
+        let mut subject = generate(rng);
+        let (expect, names) = two_faults(rng, &mut subject, faults);
+        assert_answer(&subject, expect, &names.join(" and "), number);
+    }
+}
+
+#[test]
+fn every_standard_fault_is_refused_as_expected() {
+    assert_faults(standard::faults::FAULTS, standard::generate::subject);
+}
+
+#[test]
+fn every_incremental_fault_is_refused_as_expected() {
+    assert_faults(incremental::faults::FAULTS, incremental::generate::subject);
+}
