@@ -3,7 +3,7 @@
 use mathlib.Core.Path.{_≡_, refl, sym, ap, _∙_}
 use mathlib.Core.List.{List}
 use mathlib.Core.Bool.{Bool, true, false, cond, _&&_, false≢true}
-use Prim.Native.Nat.{ℕ, suc, _+_, _*_, _-_, _/_, _≤_, _<_}
+use Prim.Native.Nat.{ℕ, suc, _+_, _*_, _/_, _≤_, _<_}
 use native.Mathlib.Omega.{arith}
 use native.Mathlib.Nat.{mul-le-mul-right, div-mul-le-self}
 use lib.ListN.{take, drop}
@@ -14,11 +14,11 @@ use Rattle.bytes_at.specs.Bytes.{bytes, sameBytes}
 use Rattle.bytes_at.specs.Steps.{_>>=_}
 use Rattle.aipsio.specs.declared.Cursor.{Cursor}
 use Rattle.aipsio.specs.declared.Value.{Value}
-use Rattle.aipsio.specs.declared.Text.{Text}
-use Rattle.aipsio.specs.Field.{latched, refusedAt, movedTo, leftIn, skipped, skippedEach, judged, settled, sizedAt, uintAt, rangedAt, agreed, textBefore, textAt, stringAt, nameAt}
+use Rattle.aipsio.specs.Field.{latched, refusedAt, movedTo, leftIn, skipped, skippedEach, judged, settled, sizedAt, uintAt, rangedAt, agreed, textAt, stringAt, nameAt}
 use Rattle.aipsio.specs.Object.{entered, opened, closed, passed, blockAt}
 use Rattle.aipsio.proofs.Kept.{Clean, Refused, clean-before, latched-keeps, passed-keeps, text-next, name-keeps, ranged-reads, agreed-keeps, _⨟_}
-use Rattle.aipsio.proofs.Sides.{settle-on, text-on, judge-on, skip-on, each-on, enter-on, close-on, pass-on}
+use Rattle.aipsio.proofs.Sides.{settle-on, judge-on, skip-on, each-on, enter-on, close-on, pass-on}
+use Rattle.aipsio.proofs.Ways.{sized-on, any-string-on, text-again}
 
 latched-clean : (c d : Cursor) → Clean (latched c d) → (Clean c) × (Clean d)
 latched-clean c d e =
@@ -110,13 +110,12 @@ module _ (c outer : Cursor) where
 
 -- a number is the one in its bytes
 module _ (s : List ℕ) (c : Cursor) (width : ℕ) where
-  pub sized-is : Clean (sizedAt s c width .next) → sizedAt s c width ≡ record { value = uintOf (c .big) width s (c .at); next = movedTo c (c .at + width) }
-  unfolding sizedAt settled _>>=_
-  sized-is e = rw (← (skipped-is c width e)) (sym (settle-on _ e _))
-
   pub sized-fits : Clean (sizedAt s c width .next) → (Clean c) × (width ≤ leftIn c)
   unfolding sizedAt settled _>>=_
   sized-fits e = skipped-fits c width e
+
+  pub sized-is : Clean (sizedAt s c width .next) → sizedAt s c width ≡ record { value = uintOf (eqb (c .big) 1) width s (c .at); next = movedTo c (c .at + width) }
+  sized-is e = let f = sized-fits e in sym (sized-on s c (f .0) refl refl (f .1) refl)
 
   module _ (low high n : ℕ) (e : Clean (rangedAt s c width low high (suc n) .next)) where
     pub ranged-is : rangedAt s c width low high (suc n) ≡ sizedAt s c width
@@ -142,24 +141,13 @@ agreed-is s c n e =
 
 -- a String's bytes are there
 module _ (s : List ℕ) (c : Cursor) where
-  pub text-is : Clean (textAt s c .next)
-      → textAt s c ≡ record { start = c .at + 4; len = uintOf (c .big) 4 s (c .at); next = movedTo c (c .at + (4 + uintOf (c .big) 4 s (c .at))) }
+  text-fits : Clean (textAt s c .next) → (Clean c) × (4 + uintOf (eqb (c .big) 1) 4 s (c .at) ≤ leftIn c)
   unfolding textAt _>>=_
-  text-is e =
-      let n = uintOf (c .big) 4 s (c .at) in
-      let d = skipped c (4 + n) in
-      let h : Clean d = rw (text-next d n) at e in
-      let p : c .at + (4 + n) - n ≡ c .at + 4 = omega arith in
-      sym (text-on d h n) ∙ rw (skipped-is c (4 + n) h, p)
+  text-fits e = skipped-fits c _ (rw text-next at e)
 
-  -- textBefore gives such a String again
-  text-again : Clean (textAt s c .next) → textBefore (textAt s c .next) (textAt s c .len) ≡ textAt s c
-  unfolding textAt _>>=_
-  text-again e =
-      let n = uintOf (c .big) 4 s (c .at) in
-      let d = skipped c (4 + n) in
-      let h : Clean d = rw (text-next d n) at e in
-      ap (λ (t : Text). textBefore (t .next) (t .len)) (sym (text-on d h n))
+  pub text-is : Clean (textAt s c .next)
+      → textAt s c ≡ record { start = c .at + 4; len = uintOf (eqb (c .big) 1) 4 s (c .at); next = movedTo c (c .at + (4 + uintOf (eqb (c .big) 1) 4 s (c .at))) }
+  text-is e = let f = text-fits e in sym (any-string-on s c (f .0) refl refl (f .1))
 
   module _ (low high : ℕ) (e : Clean (stringAt s c low high .next)) where
     string-clean : Clean (judged (textAt s c .next) (c .at) (leb low (textAt s c .len) && leb (textAt s c .len) high) 4)
@@ -171,7 +159,7 @@ module _ (s : List ℕ) (c : Cursor) where
     string-is =
         let t = textAt s c in
         let p = judged-is (t .next) (c .at) _ 3 string-clean in
-        rw p (text-again (rw p at string-clean))
+        rw p (sym (text-again s c refl))
 
     pub string-within : (low ≤ stringAt s c low high .len) × (stringAt s c low high .len ≤ high)
     string-within = rw string-is (judged-within (textAt s c .next) (c .at) (textAt s c .len) low high 3 string-clean)

@@ -9,16 +9,18 @@ use native.Mathlib.Omega.{arith}
 use mir.Val.{Fits}
 use mir.Syntax.{w64}
 use mir.Facts.{fits-le, fits-lit}
+use lib.Dec.{eqb}
 use borrow.Author.Tests.{leb-true}
-use Rattle.bytes_at.specs.Number.{bytesOf}
+use Rattle.bytes_at.specs.Number.{uintOf, bytesOf}
 use Rattle.bytes_at.specs.declared.Width.{Width}
 use Rattle.bytes_at.specs.declared.Width.the-variants.{One, Two, Four, Eight}
 use Rattle.bytes_at.specs.Loop.{after}
 use Rattle.bytes_at.specs.Steps.{_>>=_}
+use Rattle.bytes_at.proofs.Numbers.{Bytes, word-below}
 use Rattle.aipsio.specs.declared.Cursor.{Cursor}
 use Rattle.aipsio.specs.declared.Value.{Value}
 use Rattle.aipsio.specs.declared.Text.{Text}
-use Rattle.aipsio.specs.Field.{settled, rangedAt, textBefore, stringAt}
+use Rattle.aipsio.specs.Field.{skipped, settled, uintAt, rangedAt, textBefore, stringAt}
 use Rattle.aipsio.specs.Object.{axisInto, axesAt, shapeAt}
 use Rattle.aipsio.proofs.Kept.{Clean, settled-none, text-none}
 use Rattle.aipsio.proofs.Sides.{settle-on, text-on}
@@ -30,6 +32,12 @@ settled-le v c h = elim (ℕ-discrete (c .refused) 0) [ yes q ↦ rw (← (settl
 
 pub text-le : (c : Cursor) (n : ℕ) {high : ℕ} → (Clean c → n ≤ high) → textBefore c n .len ≤ high
 text-le c n h = elim (ℕ-discrete (c .refused) 0) [ yes q ↦ rw (← (text-on c q n)) (h q) | no q ↦ rw (text-none c n q) zero-le ]
+
+pub uint-below : (s : List ℕ) (c : Cursor) → Bytes s → uintAt s c .value < 4294967296
+unfolding uintAt _>>=_
+uint-below s c h =
+    let l = word-below s (c .at) h (eqb (c .big) 1) in
+    omega (arith, settled-le (uintOf (eqb (c .big) 1) 4 s (c .at)) (skipped c 4) {high = 4294967295} (λ e. omega arith))
 
 pub ranged-le : (s : List ℕ) (c : Cursor) (width low high n : ℕ) → rangedAt s c width low high (suc n) .value ≤ high
 unfolding rangedAt _>>=_

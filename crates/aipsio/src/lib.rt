@@ -4,6 +4,7 @@ ghost use mathlib.Core.Path.{_≡_};
 ghost use Prim.Native.Nat.{_<_, _≤_};
 ghost use Rattle.bytes_at.specs.Number.{bytesOf};
 ghost use Rattle.aipsio.specs.Field.{
+  refusedAt,
   leftIn,
   skipped,
   skippedEach,
@@ -18,7 +19,6 @@ ghost use Rattle.aipsio.specs.Field.{
   agreed,
   markAt,
   flagAt,
-  textBefore,
   textAt,
   stringAt,
   nameAt,
@@ -39,12 +39,12 @@ ghost use Rattle.aipsio.specs.Object.{
 };
 use bytes_at::Width;
 
-// Where the next field begins, where the enclosing object ends, the byte order, and the refusal number: 0 while there is
-// none. After a refusal `at` is where the failing field begins.
+// Where the next field begins, where the enclosing object ends, the byte order (1: big endian, AipsIO's own; any other
+// number: little endian), and the refusal number: 0 while there is none. After a refusal `at` is where the failing field begins.
 pub struct Cursor {
     pub at: usize,
     pub end: usize,
-    pub big: bool,
+    pub big: usize,
     pub refused: usize,
 }
 
@@ -68,6 +68,18 @@ pub fn left(c: Cursor) -> usize
     bytes_at::minus(c.end, c.at)
 }
 
+// Refused with the number, at the field that begins at `from`.
+fn refuse(c: Cursor, from: usize, number: usize) -> Cursor
+    ensures { λ r. ⌜ r ≡ refusedAt c from number ⌝ }
+{
+    Cursor {
+        at: from,
+        end: c.end,
+        big: c.big,
+        refused: number,
+    }
+}
+
 // Past a field of n bytes; 1 where the enclosing object ends before.
 pub fn skip(c: Cursor, n: usize) -> Cursor
     ensures { λ r. ⌜ r ≡ skipped c n ⌝ }
@@ -80,12 +92,7 @@ pub fn skip(c: Cursor, n: usize) -> Cursor
         return c;
     }
     if left(c) < n {
-        return Cursor {
-            at: at,
-            end: end,
-            big: big,
-            refused: 1,
-        };
+        return refuse(c, at, 1);
     }
     Cursor {
         at: at + n,
@@ -109,12 +116,7 @@ pub fn skip_each(c: Cursor, n: usize, size: usize) -> Cursor
     }
     let room = left(c) / size;
     if room < n {
-        return Cursor {
-            at: at + room * size,
-            end: end,
-            big: big,
-            refused: 1,
-        };
+        return refuse(c, at + room * size, 1);
     }
     Cursor {
         at: at + n * size,
@@ -128,8 +130,6 @@ pub fn skip_each(c: Cursor, n: usize, size: usize) -> Cursor
 pub fn judge(c: Cursor, from: usize, ok: bool, number: usize) -> Cursor
     ensures { λ r. ⌜ r ≡ judged c from ok number ⌝ }
 {
-    let end = c.end;
-    let big = c.big;
     let refused = c.refused;
     if refused != 0 {
         return c;
@@ -137,12 +137,7 @@ pub fn judge(c: Cursor, from: usize, ok: bool, number: usize) -> Cursor
     if ok {
         return c;
     }
-    Cursor {
-        at: from,
-        end: end,
-        big: big,
-        refused: number,
-    }
+    refuse(c, from, number)
 }
 
 // The number, 0 where the cursor is refused.
@@ -164,9 +159,28 @@ pub fn settle(value: usize, c: Cursor) -> Value
 pub fn sized(s: &[u8], c: Cursor, width: Width) -> Value
     ensures { λ r. ⌜ r ≡ sizedAt (now (s .entry)) c (bytesOf width) ⌝ }
 {
-    let v = bytes_at::number(s, c.at, c.big, width);
-    let d = skip(c, width.bytes());
-    settle(v, d)
+    let at = c.at;
+    let end = c.end;
+    let big = c.big;
+    let refused = c.refused;
+    if refused != 0 {
+        return Value { value: 0, next: c };
+    }
+    let bytes = width.bytes();
+    if left(c) < bytes {
+        let d = refuse(c, at, 1);
+        return Value { value: 0, next: d };
+    }
+    let v = bytes_at::number(s, at, big == 1, width);
+    Value {
+        value: v,
+        next: Cursor {
+            at: at + bytes,
+            end: end,
+            big: big,
+            refused: 0,
+        },
+    }
 }
 
 // A uInt, or an Int as the uInt of the same bytes.
@@ -174,9 +188,7 @@ pub fn uint(s: &[u8], c: Cursor) -> Value
     ensures { λ r. ⌜ r ≡ uintAt (now (s .entry)) c ⌝ }
     ensures bounded { λ r. ⌜ r .value < 4294967296 ⌝ }
 {
-    let v = bytes_at::word(s, c.at, c.big);
-    let d = skip(c, 4);
-    settle(v, d)
+    sized(s, c, Width::Four)
 }
 
 // A number of a range, refused with the number given outside it.
@@ -184,9 +196,14 @@ pub fn ranged(s: &[u8], c: Cursor, width: Width, low: usize, high: usize, refusa
     ensures { λ r. ⌜ r ≡ rangedAt (now (s .entry)) c (bytesOf width) low high refusal ⌝ }
 {
     let n = sized(s, c, width);
-    let ok = bytes_at::within(n.value, low, high);
-    let d = judge(n.next, c.at, ok, refusal);
-    settle(n.value, d)
+    let refused = n.next.refused;
+    if refused != 0 {
+        return n;
+    }
+    if bytes_at::within(n.value, low, high) {
+        return n;
+    }
+    settle(n.value, refuse(n.next, c.at, refusal))
 }
 
 // A number of a range, else 4.
@@ -236,11 +253,14 @@ pub fn flag(s: &[u8], c: Cursor) -> Value
     ranged(s, c, Width::One, 0, 1, 5)
 }
 
-// The n bytes before the cursor, as a String's.
-fn text_before(c: Cursor, n: usize) -> Text
-    ensures { λ r. ⌜ r ≡ textBefore c n ⌝ }
-    ensures bounded { λ r. ⌜ r .len ≤ n ⌝ }
+// A String: its length and its bytes are one field.
+pub fn any_string(s: &[u8], c: Cursor) -> Text
+    ensures { λ r. ⌜ r ≡ textAt (now (s .entry)) c ⌝ }
+    ensures bounded { λ r. ⌜ r .len < 4294967296 ⌝ }
 {
+    let at = c.at;
+    let end = c.end;
+    let big = c.big;
     let refused = c.refused;
     if refused != 0 {
         return Text {
@@ -249,22 +269,26 @@ fn text_before(c: Cursor, n: usize) -> Text
             next: c,
         };
     }
-    let start = bytes_at::minus(c.at, n);
-    Text {
-        start: start,
-        len: n,
-        next: c,
+    let n = bytes_at::word(s, at, big == 1);
+    let size = 4 + n;
+    if left(c) < size {
+        let d = refuse(c, at, 1);
+        return Text {
+            start: 0,
+            len: 0,
+            next: d,
+        };
     }
-}
-
-// A String: its length and its bytes are one field.
-pub fn any_string(s: &[u8], c: Cursor) -> Text
-    ensures { λ r. ⌜ r ≡ textAt (now (s .entry)) c ⌝ }
-    ensures bounded { λ r. ⌜ r .len < 4294967296 ⌝ }
-{
-    let n = bytes_at::word(s, c.at, c.big);
-    let d = skip(c, 4 + n);
-    text_before(d, n)
+    Text {
+        start: at + 4,
+        len: n,
+        next: Cursor {
+            at: at + size,
+            end: end,
+            big: big,
+            refused: 0,
+        },
+    }
 }
 
 // A String whose length lies in a range, else 4.
@@ -273,18 +297,34 @@ pub fn string(s: &[u8], c: Cursor, low: usize, high: usize) -> Text
     ensures bounded { λ r. ⌜ r .len ≤ high ⌝ }
 {
     let t = any_string(s, c);
-    let ok = bytes_at::within(t.len, low, high);
-    let d = judge(t.next, c.at, ok, 4);
-    text_before(d, t.len)
+    let refused = t.next.refused;
+    if refused != 0 {
+        return t;
+    }
+    if bytes_at::within(t.len, low, high) {
+        return t;
+    }
+    let d = refuse(t.next, c.at, 4);
+    Text {
+        start: 0,
+        len: 0,
+        next: d,
+    }
 }
 
 // A String that has to be the name given, else 2.
 pub fn name(s: &[u8], c: Cursor, expected: &[u8]) -> Cursor
     ensures { λ r. ⌜ r ≡ nameAt (now (s .entry)) c (now (expected .entry)) ⌝ }
 {
-    let t = any_string(s, c);
-    let ok = bytes_at::same(bytes_at::part(s, t.start, t.len), expected);
-    judge(t.next, c.at, ok, 2)
+    let found = any_string(s, c);
+    let refused = found.next.refused;
+    if refused != 0 {
+        return found.next;
+    }
+    if bytes_at::same(bytes_at::part(s, found.start, found.len), expected) {
+        return found.next;
+    }
+    refuse(found.next, c.at, 2)
 }
 
 // Into an object of len bytes whose header begins at `outer` and ends at the cursor: 1 where it ends after its container,
@@ -293,7 +333,6 @@ pub fn enter(c: Cursor, outer: Cursor, len: usize) -> Cursor
     ensures { λ r. ⌜ r ≡ entered c outer len ⌝ }
 {
     let at = c.at;
-    let end = c.end;
     let big = c.big;
     let refused = c.refused;
     let start = outer.at;
@@ -301,20 +340,10 @@ pub fn enter(c: Cursor, outer: Cursor, len: usize) -> Cursor
         return c;
     }
     if left(outer) < len {
-        return Cursor {
-            at: start,
-            end: end,
-            big: big,
-            refused: 1,
-        };
+        return refuse(c, start, 1);
     }
     if start + len < at {
-        return Cursor {
-            at: start,
-            end: end,
-            big: big,
-            refused: 7,
-        };
+        return refuse(c, start, 7);
     }
     Cursor {
         at: at,
@@ -344,7 +373,6 @@ pub fn close(c: Cursor, outer: Cursor) -> Cursor
     let end = c.end;
     let big = c.big;
     let refused = c.refused;
-    let start = outer.at;
     let after = outer.end;
     if refused != 0 {
         return c;
@@ -357,12 +385,7 @@ pub fn close(c: Cursor, outer: Cursor) -> Cursor
             refused: 0,
         };
     }
-    Cursor {
-        at: start,
-        end: end,
-        big: big,
-        refused: 7,
-    }
+    refuse(c, outer.at, 7)
 }
 
 // Out of an object whose fields are not looked at.

@@ -1,22 +1,32 @@
--- Laws of `sameBytes` for a loop that compares two lists from the front.
-use mathlib.Core.Path.{_≡_, refl, sym, ap, _∙_}
+-- Laws of `sameBytes`, and a loop that compares two lists from the front.
+-- Assumes nothing.
+use mathlib.Core.Path.{_≡_, refl, ap}
 use mathlib.Core.List.{List, [], _∷_}
-use mathlib.Core.Bool.{Bool, true, false, _&&_}
-use Prim.Native.Nat.{ℕ, zero, suc, _+_, _<_, _≤_}
+use mathlib.Core.Bool.{true, false, _&&_}
+use Prim.Native.Nat.{ℕ, _+_, _<_, _≤_}
+use native.Mathlib.Decide.{ℕ-discrete}
 use native.Mathlib.Numerals.{add-one}
-use native.Mathlib.Omega.{arith}
 use lib.ListN.{length, getD, drop, drop-of-length-le}
 use lib.Seq.{drop-cons}
 use lib.Dec.{eqb}
-use Rattle.bytes_at.proofs.Bools.{and-false}
+use borrow.Author.Tests.{eq-eqb, ne-eqb}
 use Rattle.bytes_at.specs.Bytes.{sameBytes}
 
-pub unequal-lengths : (a b : List ℕ) → (length a ≡ length b → ⊥) → sameBytes a b ≡ false
+pub same-self : (a : List ℕ) → sameBytes a a ≡ true
 unfolding sameBytes
-unequal-lengths [] [] h = absurd (h refl)
-unequal-lengths [] (y ∷ ys) h = refl
-unequal-lengths (x ∷ xs) [] h = refl
-unequal-lengths (x ∷ xs) (y ∷ ys) h = rw (unequal-lengths xs ys (λ e. h (ap suc e))) (and-false (eqb x y))
+same-self [] = refl
+same-self (x ∷ xs) = rw (eq-eqb x x refl) (same-self xs)
+
+pub unlike : (a b : List ℕ) → (a ≡ b → ⊥) → sameBytes a b ≡ false
+unfolding sameBytes
+unlike [] [] h = absurd (h refl)
+unlike [] (y ∷ ys) h = refl
+unlike (x ∷ xs) [] h = refl
+unlike (x ∷ xs) (y ∷ ys) h =
+    elim (ℕ-discrete x y) [ yes e ↦ rw (eq-eqb x y e) (unlike xs ys (λ q. h (cc))) | no n ↦ rw (ne-eqb x y n) ]
+
+pub unequal-lengths : (a b : List ℕ) → (length a ≡ length b → ⊥) → sameBytes a b ≡ false
+unequal-lengths a b h = unlike a b (λ e. h (ap length e))
 
 module _ (a b : List ℕ) (i : ℕ) where
   pub one-more : i < length a → i < length b → sameBytes (drop i a) (drop i b) ≡ eqb (getD a i 0) (getD b i 0) && sameBytes (drop (i + 1) a) (drop (i + 1) b)

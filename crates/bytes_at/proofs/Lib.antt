@@ -1,6 +1,6 @@
 -- Laws that proofs of this crate and of those above it cite.
-pub mod Bools
 pub mod Comparing
+pub mod Eights
 pub mod Parts
 pub mod Numbers
 pub mod Loops

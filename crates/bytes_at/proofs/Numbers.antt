@@ -3,9 +3,12 @@ use mathlib.Core.Path.{_≡_, refl, sym, ap, _∙_}
 use mathlib.Core.List.{List, [], _∷_}
 use mathlib.Core.Bool.{Bool, true, false}
 use Prim.Native.Nat.{ℕ, zero, suc, _+_, _*_, _≤_, _<_}
+use native.Mathlib.Decide.{decLe}
 use native.Mathlib.Omega.{arith}
-use lib.ListN.{length, getD, drop, drop-of-length-le, length-drop}
+use lib.ListN.{length, getD, drop, length-drop}
 use lib.Seq.{drop-cons}
+use mir.Val.{Fits}
+use mir.Syntax.{w8}
 use Rattle.bytes_at.specs.Number.{bigFrom, littleFrom, uintOf}
 
 -- the n bytes at place `at + k` and on, most significant byte first, after a
@@ -92,3 +95,20 @@ module _ (s : List ℕ) (at : ℕ) where
 
   pub eight-little : {a b : ℕ} → a ≡ uintOf false 4 s at → b ≡ uintOf false 4 s (at + 4) → at + 8 ≤ length s → b * 4294967296 + a ≡ uintOf false 8 s at
   eight-little p q h = omega (arith, little-number 8 s at h, little-number 4 s at (omega arith), little-number 4 s (at + 4) (omega arith), at-4 0, at-4 1, at-4 2, at-4 3)
+
+-- a list of bytes
+abbrev pub Bytes : List ℕ → Type 0
+Bytes s = (i : ℕ) → Fits w8 (getD s i 0)
+
+-- four of which hold no larger number
+module _ (s : List ℕ) (at : ℕ) (h : Bytes s) where
+  four-below : (big : Bool) → at + 4 ≤ length s → uintOf big 4 s at < 4294967296
+  four-below true l = omega (arith, big-number 4 s at l, h (at + 0), h (at + 1), h (at + 2), h (at + 3))
+  four-below false l = omega (arith, little-number 4 s at l, h (at + 0), h (at + 1), h (at + 2), h (at + 3))
+
+  pub word-below : (big : Bool) → uintOf big 4 s at < 4294967296
+  word-below big =
+      elim (decLe (at + 4) (length s)) [ yes l ↦ four-below big l | no l ↦ omega (arith, no-number big 4 s at (omega arith) (omega arith)) ]
+
+  pub a-word : (big : Bool) {r : ℕ} → r ≡ uintOf big 4 s at → (r ≡ uintOf big 4 s at) × (r < 4294967296)
+  a-word big e = (e, omega (arith, word-below big))

@@ -65,6 +65,30 @@ pub fn short(s: &[u8], at: usize, big: bool) -> usize
     b * 256 + a
 }
 
+// The number in four bytes that are there, most significant byte first.
+fn big_word(s: &[u8], at: usize) -> usize
+    requires { ⌜ at + 4 ≤ length (now s) ⌝ }
+    ensures { λ r. ⌜ r ≡ uintOf true 4 (now (s .entry)) at ⌝ }
+{
+    let a = wide(s[at]);
+    let b = wide(s[at + 1]);
+    let c = wide(s[at + 2]);
+    let d = wide(s[at + 3]);
+    a * 16777216 + b * 65536 + c * 256 + d
+}
+
+// The same, least significant byte first.
+fn little_word(s: &[u8], at: usize) -> usize
+    requires { ⌜ at + 4 ≤ length (now s) ⌝ }
+    ensures { λ r. ⌜ r ≡ uintOf false 4 (now (s .entry)) at ⌝ }
+{
+    let a = wide(s[at]);
+    let b = wide(s[at + 1]);
+    let c = wide(s[at + 2]);
+    let d = wide(s[at + 3]);
+    d * 16777216 + c * 65536 + b * 256 + a
+}
+
 // The number in four bytes; 0 where the bytes end before. An Int of -1 is 4,294,967,295.
 pub fn word(s: &[u8], at: usize, big: bool) -> usize
     ensures { λ r. ⌜ r ≡ uintOf big 4 (now (s .entry)) at ⌝ }
@@ -76,14 +100,10 @@ pub fn word(s: &[u8], at: usize, big: bool) -> usize
     if s.len() - 4 < at {
         return 0;
     }
-    let a = wide(s[at]);
-    let b = wide(s[at + 1]);
-    let c = wide(s[at + 2]);
-    let d = wide(s[at + 3]);
     if big {
-        return a * 16777216 + b * 65536 + c * 256 + d;
+        return big_word(s, at);
     }
-    d * 16777216 + c * 65536 + b * 256 + a
+    little_word(s, at)
 }
 
 // The number in eight bytes; 0 where the bytes end before.
@@ -133,13 +153,11 @@ pub fn within(x: usize, low: usize, high: usize) -> bool
     low <= x && x <= high
 }
 
-// Whether two slices hold the same bytes.
-pub fn same(a: &[u8], b: &[u8]) -> bool
+// Whether two slices of one length hold the same bytes.
+fn same_few(a: &[u8], b: &[u8]) -> bool
+    requires { ⌜ length (now a) ≡ length (now b) ⌝ }
     ensures { λ r. ⌜ r ≡ sameBytes (now (a .entry)) (now (b .entry)) ⌝ }
 {
-    if a.len() != b.len() {
-        return false;
-    }
     let mut i = 0;
     while i < a.len() {
         if a[i] != b[i] {
@@ -148,6 +166,35 @@ pub fn same(a: &[u8], b: &[u8]) -> bool
         i += 1;
     }
     true
+}
+
+// The same of eight bytes or more, eight at a time. The last eight may overlap those before them.
+fn same_many(a: &[u8], b: &[u8]) -> bool
+    requires { ⌜ (length (now a) ≡ length (now b)) × (8 ≤ length (now a)) ⌝ }
+    ensures { λ r. ⌜ r ≡ sameBytes (now (a .entry)) (now (b .entry)) ⌝ }
+{
+    let last = a.len() - 8;
+    let mut i = 0;
+    while i < last {
+        if long(a, i, true) != long(b, i, true) {
+            return false;
+        }
+        i += 8;
+    }
+    long(a, last, true) == long(b, last, true)
+}
+
+// Whether two slices hold the same bytes.
+pub fn same(a: &[u8], b: &[u8]) -> bool
+    ensures { λ r. ⌜ r ≡ sameBytes (now (a .entry)) (now (b .entry)) ⌝ }
+{
+    if a.len() != b.len() {
+        return false;
+    }
+    if a.len() < 8 {
+        return same_few(a, b);
+    }
+    same_many(a, b)
 }
 
 // As many of the len bytes from start as there are.

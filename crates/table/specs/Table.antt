@@ -39,7 +39,7 @@ descHeadAt s c = do
 
 -- the bytes of table.dat, AipsIO's own byte order: "at most 65,536 bytes (else 4, before anything is read)"
 abbrev pub wholeOf : List ℕ → Cursor
-wholeOf s = judged (record { at = 0; end = length s; big = true; refused = 0 }) 65536 (leb (length s) 65536) 4
+wholeOf s = judged (record { at = 0; end = length s; big = 1; refused = 0 }) 65536 (leb (length s) 65536) 4
 
 -- "A refusal carries its number and zeros."
 unfoldable pub refusedWith : ℕ → Description

@@ -98,7 +98,7 @@ pub fn describe(s: &[u8]) -> Description
     let whole = Cursor {
         at: 0,
         end: s.len(),
-        big: true,
+        big: 1,
         refused: 0,
     };
     let c = aipsio::judge(whole, 65536, s.len() <= 65536, 4);

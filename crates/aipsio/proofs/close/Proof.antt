@@ -1,5 +1,6 @@
 -- `aipsio::close` meets its contract: its branches are the definition's cases.
-use mathlib.Core.Path.{sym}
+use mathlib.Core.Path.{sym, _∙_}
+use Rattle.bytes_at.proofs.Stepped.{free}
 use Rattle.aipsio.proofs.Kept.{closed-keeps}
 use Rattle.aipsio.proofs.Sides.{close-on, close-refused}
 use Rattle.aipsio.proofs.close.Statement.{statement}
@@ -10,4 +11,5 @@ close-spec =
     tie.close (tie.spec
     (λ c. sym (closed-keeps _ _ .stays (c .if1 .taken)))
     (λ c. close-on _ (c .before .if1 .left) _ (c .if2 .taken))
-    (λ c. close-refused _ (c .before .if1 .left) _ (c .if2 .left)))
+    free
+    (λ c. c .refuse .ensures ∙ close-refused _ (c .before .before .if1 .left) _ (c .before .if2 .left)))

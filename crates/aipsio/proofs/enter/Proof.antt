@@ -1,5 +1,5 @@
 -- `aipsio::enter` meets its contract: its branches are the definition's cases.
-use mathlib.Core.Path.{sym}
+use mathlib.Core.Path.{sym, _∙_}
 use borrow.Author.Needs.{needs}
 use Rattle.bytes_at.proofs.Stepped.{free}
 use Rattle.aipsio.proofs.Kept.{entered-keeps}
@@ -12,8 +12,10 @@ enter-spec =
     tie.close (tie.spec
     (λ c. sym (entered-keeps _ _ _ .stays (c .if1 .taken)))
     free
-    (λ c. enter-far _ (c .before .before .if1 .left) _ (c .before .left .ensures) _ (c .if2 .taken))
+    free
+    (λ c. c .refuse .ensures ∙ enter-far _ (c .before .before .before .if1 .left) _ (c .before .before .left .ensures) _ (c .before .if2 .taken))
     (λ c. search needs)
-    (λ c. enter-short _ (c .before .before .before .if1 .left) _ (c .before .before .left .ensures) _ (c .before .if2 .left) (c .if3 .taken))
+    free
+    (λ c. c .refuse2 .ensures ∙ enter-short _ (c .before .before .before .before .if1 .left) _ (c .before .before .before .left .ensures) _ (c .before .before .if2 .left) (c .before .if3 .taken))
     (λ c. search needs)
     (λ c. enter-on _ (c .before .before .before .if1 .left) _ (c .before .before .left .ensures) _ (c .before .if2 .left) (c .if3 .left)))

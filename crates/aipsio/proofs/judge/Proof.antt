@@ -1,5 +1,6 @@
 -- `aipsio::judge` meets its contract: its branches are the definition's cases.
-use mathlib.Core.Path.{sym}
+use mathlib.Core.Path.{sym, _∙_}
+use Rattle.bytes_at.proofs.Stepped.{free}
 use Rattle.aipsio.proofs.Kept.{judged-keeps}
 use Rattle.aipsio.proofs.Sides.{judge-on, judge-refused}
 use Rattle.aipsio.proofs.judge.Statement.{statement}
@@ -10,4 +11,5 @@ judge-spec =
     tie.close (tie.spec
     (λ c. sym (judged-keeps _ _ _ _ .stays (c .if1 .taken)))
     (λ c. judge-on _ (c .before .if1 .left) _ _ _ (c .if2 .taken))
-    (λ c. judge-refused _ (c .before .if1 .left) _ _ _ (c .if2 .left)))
+    free
+    (λ c. c .refuse .ensures ∙ judge-refused _ (c .before .before .if1 .left) _ _ _ (c .before .if2 .left)))

@@ -1,16 +1,16 @@
--- `aipsio::name` meets its contract: its calls compose as the definition says.
-use Rattle.bytes_at.proofs.Stepped.{via, free}
-use Rattle.aipsio.specs.Field.{nameAt}
+-- `aipsio::name` meets its contract: its branches are the definition's cases.
+use Rattle.bytes_at.proofs.Stepped.{free}
+use Rattle.aipsio.proofs.Ways.{name-kept, name-on, name-out}
 use Rattle.aipsio.proofs.name.Statement.{statement}
 use Rattle.aipsio.proofs.name.Tie as tie
 
-returns : tie.Need-returns
-unfolding nameAt
-returns c =
-    via _ (c .before .before .before .any-string .ensures .0) (
-    via _ (c .before .before .part .ensures) (
-    via _ (c .before .same .ensures) (
-    c .judge .ensures)))
-
 pub name-spec : {M : Type 1} → statement M
-name-spec = tie.close (tie.spec free free free free returns)
+name-spec =
+    tie.close (tie.spec
+    free
+    (λ c. name-kept _ _ (c .before .before .any-string .ensures .0) _ (c .before .if1 .taken))
+    free
+    free
+    (λ c. name-on _ _ (c .before .before .before .before .before .any-string .ensures .0) _ (c .before .before .before .before .if1 .left) (c .before .before .before .part .ensures) (c .before .before .same .ensures) (c .before .if2 .taken))
+    free
+    (λ c. name-out _ _ (c .before .before .before .before .before .any-string .ensures .0) _ (c .before .before .before .before .if1 .left) (c .before .before .before .part .ensures) (c .before .before .same .ensures) (c .before .if2 .left) (c .refuse .ensures)))

@@ -1,16 +1,16 @@
--- `aipsio::ranged` meets its contract: its calls compose as the definition says.
-use Rattle.bytes_at.proofs.Stepped.{via, free}
-use Rattle.aipsio.specs.Field.{rangedAt}
+-- `aipsio::ranged` meets its contract: its branches are the definition's cases.
+use Rattle.bytes_at.proofs.Stepped.{free}
+use Rattle.aipsio.proofs.Ways.{ranged-kept, ranged-on, ranged-out}
 use Rattle.aipsio.proofs.ranged.Statement.{statement}
 use Rattle.aipsio.proofs.ranged.Tie as tie
 
-returns : tie.Need-returns
-unfolding rangedAt
-returns c =
-    via _ (c .before .before .before .sized .ensures) (
-    via _ (c .before .before .within .ensures) (
-    via _ (c .before .judge .ensures) (
-    c .settle .ensures .0)))
-
 pub ranged-spec : {M : Type 1} → statement M
-ranged-spec = tie.close (tie.spec free free free free returns)
+ranged-spec =
+    tie.close (tie.spec
+    free
+    (λ c. ranged-kept _ _ _ _ _ _ (c .before .sized .ensures) (c .if1 .taken))
+    free
+    (λ c. ranged-on _ _ _ _ _ _ (c .before .before .before .sized .ensures) (c .before .before .if1 .left) (c .before .within .ensures) (c .if2 .taken))
+    free
+    free
+    (λ c. ranged-out _ _ _ _ _ _ (c .before .before .before .before .before .sized .ensures) (c .before .before .before .before .if1 .left) (c .before .before .before .within .ensures) (c .before .before .if2 .left) (c .before .refuse .ensures) (c .settle .ensures .0)))

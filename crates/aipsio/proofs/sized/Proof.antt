@@ -1,16 +1,20 @@
--- `aipsio::sized` meets its contract: its calls compose as the definition says.
-use mathlib.Core.Path.{ap, _∙_}
-use Rattle.bytes_at.proofs.Stepped.{via, free}
-use Rattle.aipsio.specs.Field.{skipped, sizedAt}
+-- `aipsio::sized` meets its contract: its branches are the definition's cases.
+use mathlib.Core.Path.{sym}
+use borrow.Author.Needs.{needs}
+use Rattle.bytes_at.proofs.Stepped.{free}
+use Rattle.aipsio.proofs.Kept.{refused-reads, sized-reads}
+use Rattle.aipsio.proofs.Ways.{sized-short, sized-on}
 use Rattle.aipsio.proofs.sized.Statement.{statement}
 use Rattle.aipsio.proofs.sized.Tie as tie
 
-returns : tie.Need-returns
-unfolding sizedAt
-returns c =
-    via _ (c .before .before .before .number .ensures) (
-    via _ (c .before .skip .ensures ∙ ap (skipped _) (c .before .before .bytes .ensures .0)) (
-    c .settle .ensures .0))
-
 pub sized-spec : {M : Type 1} → statement M
-sized-spec = tie.close (tie.spec free free free free returns)
+sized-spec =
+    tie.close (tie.spec
+    (λ c. sym (refused-reads (sized-reads _ _ _) (c .if1 .taken)))
+    free
+    free
+    free
+    (λ c. sized-short _ _ (c .before .before .before .before .if1 .left) (c .before .before .left .ensures) (c .before .before .before .bytes .ensures .0) (c .before .if2 .taken) (c .refuse .ensures))
+    free
+    (λ c. search needs)
+    (λ c. sized-on _ _ (c .before .before .before .before .if1 .left) (c .before .before .left .ensures) (c .before .before .before .bytes .ensures .0) (c .before .if2 .left) (c .number .ensures)))

@@ -1,5 +1,5 @@
 -- `aipsio::skip` meets its contract: its branches are the definition's cases.
-use mathlib.Core.Path.{sym}
+use mathlib.Core.Path.{sym, _∙_}
 use borrow.Author.Needs.{needs}
 use Rattle.bytes_at.proofs.Stepped.{free}
 use Rattle.aipsio.proofs.Kept.{skipped-keeps}
@@ -12,6 +12,7 @@ skip-spec =
     tie.close (tie.spec
     (λ c. sym (skipped-keeps _ _ .stays (c .if1 .taken)))
     free
-    (λ c. skip-refused _ (c .before .before .if1 .left) (c .before .left .ensures) _ (c .if2 .taken))
+    free
+    (λ c. c .refuse .ensures ∙ skip-refused _ (c .before .before .before .if1 .left) (c .before .before .left .ensures) _ (c .before .if2 .taken))
     (λ c. search needs)
     (λ c. skip-on _ (c .before .before .if1 .left) (c .before .left .ensures) _ (c .if2 .left)))

@@ -1,5 +1,5 @@
 -- `aipsio::skip_each` meets its contract: its branches are the definition's cases, and no product is above the room.
-use mathlib.Core.Path.{sym}
+use mathlib.Core.Path.{sym, _∙_}
 use native.Mathlib.Nat.{div-mul-le-self}
 use native.Mathlib.Omega.{arith}
 use borrow.Author.Needs.{needs}
@@ -18,7 +18,8 @@ skip-each-spec =
     (λ c. search needs)
     (λ c. omega (arith, div-mul-le-self (c .before .left .result) (c .before .before .before .args .size)))
     (λ c. omega (arith, div-mul-le-self (c .before .left .result) (c .before .before .before .args .size)))
-    (λ c. each-refused _ (c .before .before .if1 .left) (c .before .left .ensures) _ _ (c .if2 .taken))
+    free
+    (λ c. c .refuse .ensures ∙ each-refused _ (c .before .before .before .if1 .left) (c .before .before .left .ensures) _ _ (c .before .if2 .taken))
     (λ c. omega (arith, room-for _ _ _ (c .if2 .left)))
     (λ c. omega (arith, room-for _ _ _ (c .if2 .left)))
     (λ c. each-on _ (c .before .before .if1 .left) (c .before .left .ensures) _ _ (c .if2 .left)))

@@ -1,4 +1,4 @@
-use borrow.Author.Tests.{eq-eqb, ne-eqb, le-leb, lt-leb}
+use borrow.Author.Tests.{le-leb, lt-leb}
 use Rattle.bytes_at.proofs.within.Statement.{statement}
 use Rattle.bytes_at.proofs.within.Tie as tie
 

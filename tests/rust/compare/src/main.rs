@@ -9,6 +9,7 @@ mod tally;
 use options::Options;
 use std::fs;
 use std::io::{self, BufRead, BufReader, BufWriter, Write};
+use std::path::Path;
 use std::process::{Child, ChildStdin, Command, ExitCode, Stdio};
 use std::thread;
 use tally::Tally;
@@ -59,20 +60,29 @@ fn run(options: &Options) -> Result<(), String> {
     tally.check(options.min, options.each.clone())
 }
 
-/// The request lines of all sets, one after the other.
-fn requests(sets: &[Set]) -> impl Iterator<Item = String> {
-    sets.iter().flat_map(|set| set.lines())
+/// The request lines of the saved file and of all sets, one after the other.
+fn requests(options: &Options) -> Result<impl Iterator<Item = String> + use<>, String> {
+    let saved = options.replay.as_deref().map(read_lines).transpose()?.unwrap_or_default();
+    let sets = options.sets.clone();
+    Ok(saved.into_iter().chain(sets.into_iter().flat_map(Set::lines)))
+}
+
+/// The lines of a file of requests.
+fn read_lines(path: &Path) -> Result<Vec<String>, String> {
+    let text = fs::read_to_string(path)
+        .map_err(|error| format!("{} can not be read: {error}", path.display()))?;
+    Ok(text.split_terminator('\n').map(String::from).collect())
 }
 
 fn compare(options: &Options, child: &mut Child) -> Result<Tally, String> {
     let input = child.stdin.take().expect("the input is a pipe");
     let mut answers = BufReader::new(child.stdout.take().expect("the output is a pipe"));
-    let sets = options.sets.clone();
-    let feeder = thread::spawn(move || feed(&sets, input));
+    let fed_requests = requests(options)?;
+    let feeder = thread::spawn(move || feed(fed_requests, input));
 
     let mut tally = Tally::default();
     let mut line = Vec::new();
-    for request in requests(&options.sets) {
+    for request in requests(options)? {
         let expected = model::answer(&request);
         let read = next_answer(&mut answers, &mut line)?;
         let difference = match read {
@@ -101,9 +111,9 @@ fn compare(options: &Options, child: &mut Child) -> Result<Tally, String> {
 }
 
 /// Writes the request lines to the command.
-fn feed(sets: &[Set], input: ChildStdin) -> io::Result<()> {
+fn feed(requests: impl Iterator<Item = String>, input: ChildStdin) -> io::Result<()> {
     let mut input = BufWriter::with_capacity(1 << 16, input);
-    for request in requests(sets) {
+    for request in requests {
         input.write_all(request.as_bytes())?;
         input.write_all(b"\n")?;
     }

@@ -12,6 +12,8 @@ pub struct Options {
     pub each: RangeInclusive<usize>,
     /// Where the first request with a difference goes.
     pub save: PathBuf,
+    /// A file of request lines, which come before those of the sets.
+    pub replay: Option<PathBuf>,
     pub sets: Vec<Set>,
     pub command: Vec<String>,
 }
@@ -19,7 +21,8 @@ pub struct Options {
 pub fn usage() -> String {
     let sets: Vec<String> = sets::USAGE.lines().map(|line| format!("  {line}")).collect();
     format!(
-        "usage: compare [--min TOTAL] [--each FROM..TO] [--save FILE] SET [, SET]... -- COMMAND [ARGUMENT]...
+        "usage: compare [OPTION]... SET [, SET]... -- COMMAND [ARGUMENT]...
+       compare [OPTION]... --replay FILE [SET [, SET]...] -- COMMAND [ARGUMENT]...
 
 Gives the sets' request lines to COMMAND, one a line, and compares its answers,
 one a line, with the model's. Prints how often each question was accepted and
@@ -30,6 +33,7 @@ gives too few or too many answers or ends with an error.
   --each FROM..TO  fail if one of these refusal numbers does not occur
   --save FILE      where to put the request with the first difference;
                    target/tests/difference.txt if not given
+  --replay FILE    ask the request lines of this file, before the sets
 
 Sets, with commas between them:
 {}",
@@ -45,6 +49,7 @@ impl Options {
             min: 0,
             each: RangeInclusive::new(1, 0),
             save: PathBuf::from("target/tests/difference.txt"),
+            replay: None,
             sets: Vec::new(),
             command: command[1..].to_vec(),
         };
@@ -61,9 +66,13 @@ impl Options {
                 }
                 "--each" => options.each = range(value).ok_or(format!("no range: {value}"))?,
                 "--save" => options.save = PathBuf::from(value),
+                "--replay" => options.replay = Some(PathBuf::from(value)),
                 _ => return Err(format!("no such option: {option}")),
             }
             own = rest;
+        }
+        if own.is_empty() && options.replay.is_some() {
+            return Ok(options);
         }
         for set in own.join(" ").split(',') {
             options.sets.push(Set::parse(&set.split_whitespace().collect::<Vec<_>>())?);
@@ -98,6 +107,14 @@ mod tests {
     }
 
     #[test]
+    fn saved_requests() {
+        let options = parse("--replay a.txt -- cat").unwrap();
+        assert_eq!((options.replay, options.sets), (Some("a.txt".into()), vec![]));
+        let options = parse("--replay a.txt standard 1 2, small-file -- cat").unwrap();
+        assert_eq!(options.sets, [Set::Standard { seed: 1, count: 2 }, Set::SmallFile]);
+    }
+
+    #[test]
     fn faulty_lines() {
         for line in [
             "prefixes",
@@ -109,6 +126,9 @@ mod tests {
             "--each 0..8 prefixes -- cat",
             "--each 1-8 prefixes -- cat",
             "--every 1..8 prefixes -- cat",
+            "--each 1..15 prefixes -- cat",
+            "--replay -- cat",
+            "standard 1 -- cat",
         ] {
             assert!(parse(line).is_err(), "{line}");
         }

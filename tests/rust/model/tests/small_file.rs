@@ -1,83 +1,9 @@
-//! Document 01's small file, written here byte by byte.
+//! The `table.dat` of document 01's small file, written here byte by byte.
 
+mod common;
+
+use common::small_table as small_file;
 use model::{DataType, Kind, answer, column, describe, listing};
-
-fn uint(number: u32) -> Vec<u8> {
-    number.to_be_bytes().to_vec()
-}
-
-fn string(text: &str) -> Vec<u8> {
-    [uint(text.len() as u32), text.as_bytes().to_vec()].concat()
-}
-
-/// An object's length counts itself, the name and version, and the fields.
-fn object(name: &str, version: u32, fields: &[Vec<u8>]) -> Vec<u8> {
-    let rest = [string(name), uint(version), fields.concat()].concat();
-    [uint(4 + rest.len() as u32), rest].concat()
-}
-
-/// The TableRecord without keywords, as Casacore writes it.
-fn record() -> Vec<u8> {
-    object("TableRecord", 1, &[object("RecordDesc", 2, &[uint(0)]), uint(1)])
-}
-
-fn scalar_column(data_type: &str, number: u32, name: &str, default: &[u8]) -> Vec<u8> {
-    [
-        uint(1), // ColumnDesc version
-        string(&format!("ScalarColumnDesc<{data_type}")),
-        uint(1), // BaseColumnDesc version
-        string(name),
-        string("a comment"),
-        string("StandardStMan"),
-        string("StandardStMan"),
-        uint(number), // data type
-        uint(0),      // options
-        uint(0),      // dimensionality
-        uint(0),      // string maximum
-        record(),
-        uint(1), // ScalarColumnDesc version
-        default.to_vec(),
-    ]
-    .concat()
-}
-
-fn column_info(name: &str) -> Vec<u8> {
-    [uint(2), string(name), uint(1), uint(0)].concat()
-}
-
-fn small_file() -> Vec<u8> {
-    let description = object(
-        "TableDesc",
-        2,
-        &[
-            string(""),
-            string(""),
-            string(""),
-            record(),
-            record(),
-            uint(3), // columns
-            scalar_column("Int     ", 5, "SCAN", &[0; 4]),
-            scalar_column("Bool", 0, "FLAG", &[0]),
-            scalar_column("double  ", 8, "TIME", &[0; 8]),
-        ],
-    );
-    let column_set = [
-        (-2_i32).to_be_bytes().to_vec(), // version
-        uint(7),                         // rows
-        uint(1),                         // highest sequence number
-        uint(1),                         // managers
-        string("StandardStMan"),
-        uint(0),
-        column_info("SCAN"),
-        column_info("FLAG"),
-        column_info("TIME"),
-        uint(24), // DMInfo: three sets, three offsets
-        [0, 0, 0, 0, 16, 17].map(u32::to_be_bytes).concat(),
-    ]
-    .concat();
-    let fields = [uint(7), uint(1), string("PlainTable"), description, column_set];
-    [vec![0xBE; 4], object("Table", 2, &fields)].concat()
-}
 
 /// The file after a change of the only place where these bytes stand.
 fn changed(old: &[u8], new: &[u8]) -> Vec<u8> {

@@ -28,7 +28,7 @@ impl<F> Subject<F> {
     }
 }
 
-/// What questions need to know of a good file of either kind.
+/// A file of either kind. Its cells can be placed as long as it is good.
 pub trait BucketFile: Clone {
     fn buckets(&self) -> &Buckets;
     fn buckets_mut(&mut self) -> &mut Buckets;
@@ -39,7 +39,7 @@ pub trait BucketFile: Clone {
     fn border_rows(&self) -> Vec<u32>;
     /// The length of the index text; 0 where no room is needed.
     fn index_length(&self) -> usize;
-    /// The plan of one of the manager's columns.
+    /// The plan of a column, as if it were one of the manager's.
     fn plan(&self, table: &Table, position: usize) -> [u64; 9];
     /// The first bit and bit count of a cell of one of the manager's columns.
     fn place(&self, table: &Table, position: usize, row: u32) -> (u64, u64);

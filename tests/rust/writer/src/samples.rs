@@ -1,6 +1,9 @@
 //! Sample tables.
 
+use crate::buckets::{BucketFile, Buckets, HEADER_ROOM, Subject};
+use crate::incremental::{DataBucket, IncrementalFile, Values};
 use crate::record::{self, Value};
+use crate::standard::{Index, StandardFile};
 use crate::table::{
     BOOL, COMPLEX, Column, DOUBLE, FLOAT, INT, Manager, Record, STRING, Shape, Table,
 };
@@ -14,6 +17,17 @@ pub fn all() -> [(&'static str, Vec<u8>); 5] {
         ("empty", Vec::new()),
         ("torn", torn()),
     ]
+}
+
+/// The files of a sample's managers: the sequence number and the bytes of each.
+pub fn files(name: &str) -> Vec<(u32, Vec<u8>)> {
+    match name {
+        "small" => vec![(0, small_file().file.encode())],
+        "arrays" => {
+            vec![(0, arrays_standard().file.encode()), (1, arrays_incremental().file.encode())]
+        }
+        _ => Vec::new(),
+    }
 }
 
 /// Document 01's small file.
@@ -71,6 +85,152 @@ pub fn arrays() -> Table {
     table.description.comment = "Sample with columns of a MeasurementSet".into();
     table.description.keywords = record::keywords(&[("MS_VERSION", Value::Float(2.0))]);
     table
+}
+
+/// Document 01's small file: five buckets of 64 bytes, the index in 1, 3 and 4.
+pub fn small_file() -> Subject<StandardFile> {
+    let buckets = Buckets::new("StandardStMan", 3, 1, 64, 5);
+    let indices = vec![Index::new(4, 3, &[(3, 2), (6, 0)])];
+    let file = StandardFile::new(buckets, vec![1, 3, 4], indices);
+    let mut subject = Subject { table: small(), number: 0, file };
+    for row in 0..7 {
+        let scan = 1 + row as i32 / 4;
+        let time = 4_895_000_000.0 + 10.0 * f64::from(row);
+        put(&mut subject, "SCAN", row, &scan.to_be_bytes());
+        put(&mut subject, "TIME", row, &time.to_be_bytes());
+    }
+    put_bits(&mut subject, "FLAG", |row| vec![row == 2 || row == 5]);
+    subject
+}
+
+/// The StandardStMan file of the arrays table: two sets, a bucket with strings,
+/// a free bucket, and the index in the second half of a bucket.
+pub fn arrays_standard() -> Subject<StandardFile> {
+    let buckets = Buckets::new("StandardStMan", 3, 0, 2564, 5);
+    // 32 rows of the first set, and 5,128 cells of 4 bits, fill a bucket.
+    let indices = vec![Index::new(32, 8, &[(19, 0)]), Index::new(5128, 1, &[(19, 2)])];
+    let mut file = StandardFile::new(buckets, vec![4], indices);
+    file.index_offset = 1282;
+    file.last_heap = 1;
+    file.buckets.free = vec![3];
+    let mut subject = Subject { table: arrays(), number: 0, file };
+    let mut heap = Heap::new();
+    for row in 0..20 {
+        let (antenna1, antenna2) = (row as i32 % 4, 1 + row as i32 % 5);
+        put(&mut subject, "ANTENNA1", row, &antenna1.to_le_bytes());
+        put(&mut subject, "ANTENNA2", row, &antenna2.to_le_bytes());
+        let uvw = [12.5, -40.25, 3.0].map(|axis| axis * f64::from(row + 1));
+        put(&mut subject, "UVW", row, uvw.map(f64::to_le_bytes).as_flattened());
+        let array = 16 + 24 * u64::from(row); // its place in the array file
+        put(&mut subject, "WEIGHT", row, &array.to_le_bytes());
+        put(&mut subject, "OBSERVER", row, &short_string(b"observer"));
+        put(&mut subject, "STATION", row, format!("RT{:X}\0", antenna1).as_bytes());
+        let schedule = heap.strings(&[format!("block {}", row / 8), format!("row {row}")]);
+        put(&mut subject, "SCHEDULE", row, &schedule);
+    }
+    put_bits(&mut subject, "FLAG_ROW", |row| vec![row == 7]);
+    put_bits(&mut subject, "FLAG_CORR", |row| vec![false, row == 3, row % 5 == 4, false]);
+    subject.file.buckets.patch(1, 0, &heap.bucket());
+    subject
+}
+
+/// The IncrementalStMan file of the arrays table: two buckets of 12 and 8 rows,
+/// and a free one between them.
+pub fn arrays_incremental() -> Subject<IncrementalFile> {
+    let bucket = |number, rows: u32, first_time: f64, scan: i32| {
+        let times = rows / 4; // four rows have the same time
+        let mut data = Vec::new();
+        for time in 0..times {
+            data.extend((first_time + 10.0 * f64::from(time)).to_le_bytes());
+        }
+        data.extend(scan.to_le_bytes());
+        data.extend(10.0_f64.to_le_bytes());
+        let values = |starts: Vec<u32>, offsets| Values { count: None, starts, offsets };
+        let columns = vec![
+            values((0..times).map(|time| 4 * time).collect(), (0..times).map(|t| 8 * t).collect()),
+            values(vec![0], vec![8 * times]),
+            values(vec![0], vec![8 * times + 4]),
+        ];
+        DataBucket { number, index_offset: None, data, columns }
+    };
+    let data = vec![bucket(2, 12, 4_895_000_000.0, 1), bucket(0, 8, 4_895_000_030.0, 2)];
+    let mut buckets = Buckets::new("IncrementalStMan", 5, 0, 128, 3);
+    buckets.free = vec![1];
+    let file = IncrementalFile::new(buckets, false, vec![0, 12, 20], data);
+    Subject { table: arrays(), number: 1, file }
+}
+
+/// Where a cell of a named column stands: its first bit.
+fn first_bit(subject: &Subject<StandardFile>, name: &str, row: u32) -> usize {
+    let columns = subject.table.columns();
+    let position = columns.iter().position(|column| column.name.bytes == name.as_bytes());
+    let position = position.expect("there is this column");
+    subject.file.place(&subject.table, position, row).0 as usize
+}
+
+/// Writes bytes of a data bucket, by their place in the file.
+fn put_at(subject: &mut Subject<StandardFile>, byte: usize, bytes: &[u8]) {
+    let size = subject.file.buckets.size as usize;
+    let place = byte - HEADER_ROOM;
+    subject.file.buckets.patch((place / size) as u32, place % size, bytes);
+}
+
+/// Writes a cell.
+fn put(subject: &mut Subject<StandardFile>, name: &str, row: u32, value: &[u8]) {
+    let byte = first_bit(subject, name, row) / 8;
+    put_at(subject, byte, value);
+}
+
+/// Writes the cells of a Bool column, some of which share a byte.
+fn put_bits(subject: &mut Subject<StandardFile>, name: &str, value: fn(u32) -> Vec<bool>) {
+    let mut bytes = std::collections::BTreeMap::new();
+    for row in 0..subject.table.rows {
+        let first = first_bit(subject, name, row);
+        for (element, is_true) in value(row).into_iter().enumerate() {
+            let bit = first + element;
+            *bytes.entry(bit / 8).or_insert(0) |= u8::from(is_true) << (bit % 8);
+        }
+    }
+    for (byte, value) in bytes {
+        put_at(subject, byte, &[value]);
+    }
+}
+
+/// A String of at most 8 bytes: the bytes and the length.
+fn short_string(text: &[u8]) -> Vec<u8> {
+    let mut cell = text.to_vec();
+    cell.resize(8, 0);
+    cell.extend((text.len() as i32).to_le_bytes());
+    cell
+}
+
+/// The string heap in bucket 1.
+struct Heap {
+    strings: Vec<u8>,
+}
+
+impl Heap {
+    fn new() -> Self {
+        Self { strings: Vec::new() }
+    }
+
+    /// Adds an array of strings; gives its bucket, offset and length.
+    fn strings(&mut self, strings: &[String]) -> Vec<u8> {
+        let offset = self.strings.len() as i32;
+        for string in strings {
+            self.strings.extend((string.len() as i32).to_le_bytes());
+            self.strings.extend(string.as_bytes());
+        }
+        let length = self.strings.len() as i32 - offset;
+        [1, offset, length].map(i32::to_le_bytes).concat()
+    }
+
+    /// The bucket: the free list's link, the used length, the length of gaps
+    /// and the next bucket, then the strings.
+    fn bucket(&self) -> Vec<u8> {
+        let header = [0, self.strings.len() as i32, 0, -1].map(i32::to_le_bytes).concat();
+        [header, self.strings.clone()].concat()
+    }
 }
 
 /// A good table, and bytes after it: one more than a file may have.

@@ -2,9 +2,13 @@
 
 use crate::encode::Layout;
 use crate::faults::{self, Expect, FAULTS, LARGE_FAULTS};
+use crate::file_cases;
 use crate::generate;
+use crate::hex::hex;
+use crate::large_files;
 use crate::rng::Rng;
 use crate::samples;
+use crate::small_file;
 use crate::table::{BOOL, Column, INT, Manager, Record, Table};
 
 /// How to ask for a set, for usage texts.
@@ -14,7 +18,14 @@ prefixes           Description of every prefix of two good tables, as it is and
                    with the lengths of cut objects cut too
 bytes              Description after every change of one byte of a small table
 large [SEED COUNT] tables of 64 columns and 16 managers, near 65,536 bytes
-bad                lines that are no requests";
+bad                lines that are no requests
+standard SEED COUNT
+                   generated questions about good and faulty StandardStMan files
+incremental SEED COUNT
+                   the same about IncrementalStMan files
+files-large [SEED COUNT]
+                   files of 4,096 buckets, or with the largest buckets
+small-file         document 01's small file, its cases and variants of them";
 
 #[derive(Clone, Copy, Debug, PartialEq, Eq)]
 pub enum Set {
@@ -23,6 +34,10 @@ pub enum Set {
     Bytes,
     Large { seed: u64, count: u64 },
     Bad,
+    Standard { seed: u64, count: u64 },
+    Incremental { seed: u64, count: u64 },
+    FilesLarge { seed: u64, count: u64 },
+    SmallFile,
 }
 
 pub type Lines = Box<dyn Iterator<Item = String> + Send>;
@@ -38,6 +53,17 @@ impl Set {
             ["large"] => Self::Large { seed: 1, count: 300 },
             ["large", seed, count] => Self::Large { seed: number(seed)?, count: number(count)? },
             ["bad"] => Self::Bad,
+            ["standard", seed, count] => {
+                Self::Standard { seed: number(seed)?, count: number(count)? }
+            }
+            ["incremental", seed, count] => {
+                Self::Incremental { seed: number(seed)?, count: number(count)? }
+            }
+            ["files-large"] => Self::FilesLarge { seed: 1, count: 60 },
+            ["files-large", seed, count] => {
+                Self::FilesLarge { seed: number(seed)?, count: number(count)? }
+            }
+            ["small-file"] => Self::SmallFile,
             _ => return Err(format!("no set of requests: {}", words.join(" "))),
         })
     }
@@ -61,6 +87,19 @@ impl Set {
                 question(rng, &case)
             })),
             Self::Bad => Box::new(bad().into_iter()),
+            Self::Standard { seed, count } => Box::new((0..count).map(move |number| {
+                let rng = &mut Rng::new(seed, number);
+                file_cases::standard(rng).question(rng)
+            })),
+            Self::Incremental { seed, count } => Box::new((0..count).map(move |number| {
+                let rng = &mut Rng::new(seed, number);
+                file_cases::incremental(rng).question(rng)
+            })),
+            Self::FilesLarge { seed, count } => Box::new((0..count).map(move |number| {
+                let rng = &mut Rng::new(seed, number);
+                large_files::case(rng, number).question(rng)
+            })),
+            Self::SmallFile => Box::new(small_file::lines()),
         }
     }
 }
@@ -294,13 +333,4 @@ fn bad() -> Vec<String> {
     lines.push(format!("column {good}"));
     lines.push(format!("column {good} 5"));
     lines
-}
-
-/// Bytes in a request line.
-pub fn hex(bytes: &[u8]) -> String {
-    if bytes.is_empty() {
-        return "-".to_string();
-    }
-    let digit = |value: u8| char::from(b"0123456789abcdef"[usize::from(value)]);
-    bytes.iter().flat_map(|byte| [digit(byte >> 4), digit(byte & 15)]).collect()
 }

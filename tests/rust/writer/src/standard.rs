@@ -226,7 +226,7 @@ impl BucketFile for StandardFile {
 
     fn plan(&self, table: &Table, position: usize) -> [u64; 9] {
         let column = &table.columns()[position];
-        let index = &self.indices[column.info.set as usize];
+        let index = self.indices.get(column.info.set as usize);
         [
             position as u64,
             column.info.manager.into(),
@@ -235,7 +235,7 @@ impl BucketFile for StandardFile {
             cells::bits(column),
             column.info.set.into(),
             column.info.offset.into(),
-            index.rows_per_bucket.into(),
+            index.map_or(0, |index| index.rows_per_bucket.into()),
             self.buckets.size.into(),
         ]
     }

@@ -4,8 +4,9 @@ use writer::bucket_faults::{Fault, two_faults};
 use writer::buckets::{BucketFile, Subject};
 use writer::objects::Expect;
 use writer::rng::Rng;
+use writer::sets::Set;
 use writer::table::{BOOL, STRING};
-use writer::{incremental, standard};
+use writer::{incremental, large_files, standard};
 
 const ROOM: usize = 65_536;
 
@@ -39,6 +40,8 @@ fn assert_cells<F: BucketFile>(subject: &Subject<F>, number: u64, is_standard: b
     let mut rows = subject.file.border_rows();
     rows.extend([0, 1, subject.table.rows / 2, subject.table.rows.wrapping_sub(1)]);
     rows.retain(|row| *row < subject.table.rows);
+    let step = rows.len().div_ceil(60).max(1);
+    let rows: Vec<u32> = rows.into_iter().step_by(step).collect();
     for position in subject.own_columns() {
         let column = &subject.table.columns()[position];
         let fields = model::plan(&table, &file, position as u64, &mut room).map(|plan| {
@@ -99,7 +102,7 @@ fn assert_faults<F: BucketFile>(faults: &[Fault<F>], generate: fn(&mut Rng) -> S
             assert_answer(&subject, expect, fault.name, number);
         }
     }
-    for number in 0..40000 {
+    for number in 0..4000 {
         let rng = &mut Rng::new(34, number);
         let mut subject = generate(rng);
         let (expect, names) = two_faults(rng, &mut subject, faults);
@@ -115,4 +118,82 @@ fn every_standard_fault_is_refused_as_expected() {
 #[test]
 fn every_incremental_fault_is_refused_as_expected() {
     assert_faults(incremental::faults::FAULTS, incremental::generate::subject);
+}
+
+/// Each fault gives at least one refusal, but for those that are none.
+fn assert_reached<F: BucketFile>(
+    faults: &[Fault<F>],
+    generate: fn(&mut Rng) -> Subject<F>,
+    harmless: &[&str],
+) {
+    for fault in faults {
+        let refused = (0..100).any(|number| {
+            let rng = &mut Rng::new(35, number);
+            let mut subject = generate(rng);
+            (fault.apply)(rng, &mut subject);
+            refusal(&subject) > 0
+        });
+        assert_eq!(refused, !harmless.contains(&fault.name), "{}", fault.name);
+    }
+}
+
+#[test]
+fn every_standard_fault_is_reached() {
+    let harmless = [
+        "cache size",
+        "last heap bucket",
+        "index chain longer",
+        "prefix before the offset",
+        "free-space contents",
+        "more free buckets",
+    ];
+    assert_reached(standard::faults::FAULTS, standard::generate::subject, &harmless);
+}
+
+#[test]
+fn every_incremental_fault_is_reached() {
+    let harmless = [
+        "cache size",
+        "unique column number",
+        "trailing bytes",
+        "more free buckets",
+        "bucket not in the index",
+    ];
+    assert_reached(incremental::faults::FAULTS, incremental::generate::subject, &harmless);
+}
+
+#[test]
+fn large_files_are_accepted() {
+    for number in 0..3 {
+        let rng = &mut Rng::new(36, number);
+        assert_cells(&large_files::standard(rng), number, true);
+        assert_cells(&large_files::incremental(rng), number, false);
+        assert_eq!(refusal(&large_files::large_bucket(rng, number)), 0);
+    }
+}
+
+/// How often the answers to a set's lines are each refusal number; 0 is for
+/// accepted ones.
+fn refusals(set: Set) -> [usize; 15] {
+    let mut counts = [0; 15];
+    for line in set.lines() {
+        let answer = model::answer(&line);
+        let mut words = answer.split(' ');
+        match words.next() {
+            Some("refused") => counts[words.next().unwrap().parse::<usize>().unwrap()] += 1,
+            Some("bad") => panic!("no request: {}", &line[..40]),
+            _ => counts[0] += 1,
+        }
+    }
+    counts
+}
+
+#[test]
+fn every_refusal_number_occurs_often() {
+    let counts = refusals(Set::Standard { seed: 41, count: 6000 });
+    assert!(counts.iter().all(|count| *count >= 60), "{counts:?}");
+    let counts = refusals(Set::Incremental { seed: 41, count: 6000 });
+    assert!(counts[..=12].iter().all(|count| *count >= 40), "{counts:?}");
+    let counts = refusals(Set::SmallFile);
+    assert!(counts.iter().all(|count| *count >= 10), "{counts:?}");
 }

@@ -36,14 +36,17 @@ fn print(set: Set) -> io::Result<()> {
     output.flush()
 }
 
-/// Each sample's `table.dat`, and in `expected` what the listing program
-/// prints for it.
+/// Each sample's `table.dat`, the files of its managers, and in `expected` what
+/// the listing program prints for it.
 fn write_samples(directory: &Path) -> io::Result<()> {
     for (name, bytes) in samples::all() {
         let sample = directory.join(name);
         std::fs::create_dir_all(&sample)?;
         std::fs::write(sample.join("expected"), model::listing(&bytes))?;
         std::fs::write(sample.join("table.dat"), bytes)?;
+        for (number, bytes) in samples::files(name) {
+            std::fs::write(sample.join(format!("table.f{number}")), bytes)?;
+        }
     }
     Ok(())
 }

@@ -92,9 +92,8 @@ fn with_sets(rng: &mut Rng, rows: u32, sets: Vec<Set>) -> Subject<StandardFile> 
     let mut columns = Vec::new();
     let mut indices = Vec::new();
     for (number, set) in sets.into_iter().enumerate() {
-        // A few rows more than fit are too many entries to be deleted from.
         let spans = match rows {
-            0..=100_000 => lean::parts(rng, rows, set.rows_per_bucket),
+            0..=1000 => lean::parts(rng, rows, set.rows_per_bucket),
             _ => full_parts(rows, set.rows_per_bucket),
         };
         let mut next = 0;
@@ -150,11 +149,13 @@ fn free_space(rng: &mut Rng) -> FreeSpace {
 /// their numbers, in any order.
 fn place_buckets(rng: &mut Rng, file: &mut StandardFile, least_size: u32) {
     let length = file.text().bytes.len();
+    let data: usize = file.indices.iter().map(|index| index.buckets.elements.len()).sum();
     let links = LINKS as u32;
     let whole = links + length as u32;
     let slack = |rng: &mut Rng| if rng.chance(1, 2) { 0 } else { rng.within(1..=40) as u32 };
+    let is_small = |size: u32| size as usize * (data + 1) < 8000;
     let mut index_buckets = 1;
-    if least_size.max(whole) <= 700 && rng.chance(1, 4) {
+    if is_small(least_size.max(whole)) && rng.chance(1, 4) {
         // At an offset.
         let size = least_size.max(whole) + slack(rng);
         let last = size - length as u32;
@@ -166,11 +167,13 @@ fn place_buckets(rng: &mut Rng, file: &mut StandardFile, least_size: u32) {
         };
     } else {
         // In a chain, which the text may fill exactly.
-        let divisors: Vec<u32> = (1..=8)
-            .filter(|part| length as u32 % part == 0 && links + length as u32 / part >= least_size)
+        let sizes: Vec<u32> = (1..=8)
+            .filter(|part| length as u32 % part == 0)
+            .map(|part| links + length as u32 / part)
+            .filter(|size| *size >= least_size && is_small(*size))
             .collect();
-        file.buckets.size = if !divisors.is_empty() && rng.chance(1, 3) {
-            links + length as u32 / rng.pick(&divisors)
+        file.buckets.size = if !sizes.is_empty() && rng.chance(1, 3) {
+            rng.pick(&sizes)
         } else {
             least_size + slack(rng)
         };
@@ -181,7 +184,6 @@ fn place_buckets(rng: &mut Rng, file: &mut StandardFile, least_size: u32) {
     }
     let free = if rng.chance(2, 5) { 0 } else { rng.within(1..=4) };
     let unused = if rng.chance(1, 2) { 0 } else { rng.within(1..=3) };
-    let data: usize = file.indices.iter().map(|index| index.buckets.elements.len()).sum();
     let count = index_buckets + free + data + unused;
     let mut numbers: Vec<u32> = (0..count as u32).collect();
     if !rng.chance(1, 6) {

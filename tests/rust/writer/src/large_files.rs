@@ -1,0 +1,167 @@
+//! Files at the limits of document 01's Ranges: 4,096 buckets, an index text of
+//! 65,536 bytes, 64 columns, 16 sets, buckets of 1,048,576 bytes.
+
+use crate::buckets::{Buckets, Subject};
+use crate::cells;
+use crate::incremental::{self, DataBucket, IncrementalFile, Values};
+use crate::lean;
+use crate::questions::Asked;
+use crate::rng::Rng;
+use crate::standard::{self, FreeSpace, Index, LINKS, StandardFile};
+use crate::table::{BOOL, Column, INT, Manager, SHORT, UCHAR};
+
+const BUCKETS: u32 = 4096;
+const TEXT: usize = 65_536;
+const LARGEST: u32 = 1_048_576;
+
+/// A table and a large file; often with a fault.
+pub fn case(rng: &mut Rng, number: u64) -> Asked {
+    match number % 10 {
+        0 => Asked::new(&large_bucket(rng, number / 10)),
+        1..=6 => {
+            let mut subject = standard(rng);
+            if rng.chance(1, 2) {
+                (rng.pick(standard::faults::FAULTS).apply)(rng, &mut subject);
+            }
+            Asked::new(&subject)
+        }
+        _ => {
+            let mut subject = incremental(rng);
+            if rng.chance(1, 2) {
+                (rng.pick(incremental::faults::FAULTS).apply)(rng, &mut subject);
+            }
+            Asked::new(&subject)
+        }
+    }
+}
+
+/// StandardStMan: 4,096 buckets of 72 bytes, of which 1,024 hold the index
+/// text's 65,536 bytes; 64 columns in 16 sets.
+pub fn standard(rng: &mut Rng) -> Subject<StandardFile> {
+    let rows = rng.within(400..=500) as u32;
+    let endianness = rng.below(2) as u32;
+    let mut columns = Vec::new();
+    let mut indices = Vec::new();
+    for set in 0..16 {
+        let rows_per_bucket = rng.within(4..=6) as u32;
+        let mut offset = 0;
+        // At most 6 x (4 + 2 + 1) bytes and 6 bits.
+        for data_type in [INT, BOOL, SHORT, UCHAR] {
+            let column = Column::scalar(data_type, "").at(set, offset);
+            offset += cells::extent(&column, rows_per_bucket) as u32;
+            columns.push(column);
+        }
+        let mut next = 0;
+        let entries: Vec<(u32, u32)> = lean::parts(rng, rows, rows_per_bucket)
+            .into_iter()
+            .map(|part| {
+                next += part;
+                (next - 1, 0)
+            })
+            .collect();
+        indices.push(Index::new(rows_per_bucket, 4, &entries));
+    }
+    rng.shuffle(&mut columns);
+    let table = lean::bare(rows, endianness, columns, vec![Manager::new("StandardStMan", 0)]);
+    let size = LINKS as u32 + 64;
+    let buckets = Buckets::new("StandardStMan", 3, endianness, size, BUCKETS);
+    let mut file = StandardFile::new(buckets, Vec::new(), indices);
+    fill_text(rng, &mut file);
+    number_buckets(rng, &mut file, TEXT / 64);
+    Subject { table, number: 0, file }
+}
+
+/// Pairs of free space until the text is as long as it may be.
+fn fill_text(rng: &mut Rng, file: &mut StandardFile) {
+    let sets = file.indices.len();
+    let mut pairs = vec![Vec::new(); sets];
+    for _ in 0..(TEXT - file.text().bytes.len()) / 8 {
+        pairs[rng.below(sets)].push((rng.uint() as i32, rng.uint() as i32));
+    }
+    for (index, pairs) in file.indices.iter_mut().zip(pairs) {
+        index.free_space = FreeSpace::new(pairs);
+    }
+}
+
+/// Gives the buckets their numbers; those that are left are free or not used.
+fn number_buckets(rng: &mut Rng, file: &mut StandardFile, index_buckets: usize) {
+    let mut numbers: Vec<u32> = (0..file.buckets.count).collect();
+    rng.shuffle(&mut numbers);
+    let mut take = |count: usize| numbers.split_off(numbers.len().saturating_sub(count));
+    file.index_chain = take(index_buckets);
+    for index in &mut file.indices {
+        index.buckets.elements = take(index.buckets.elements.len());
+    }
+    file.buckets.free = take(rng.within(1..=2000));
+    file.buckets.filler = Some(rng.number());
+}
+
+/// IncrementalStMan: 4,096 buckets of one to three rows.
+pub fn incremental(rng: &mut Rng) -> Subject<IncrementalFile> {
+    let endianness = rng.below(2) as u32;
+    let columns = vec![Column::scalar(INT, ""), Column::direct(BOOL, "", &[9])];
+    let mut numbers: Vec<u32> = (0..BUCKETS).collect();
+    rng.shuffle(&mut numbers);
+    let free = rng.pick(&[0, 0, 1, 1000]);
+    let free = numbers.split_off(numbers.len() - free);
+    let mut first_rows = vec![0];
+    let mut data = Vec::new();
+    for number in numbers {
+        let rows = rng.within(1..=3) as u32;
+        first_rows.push(first_rows[data.len()] + rows);
+        let count = rng.within(1..=rows as usize) as u32;
+        let values = |start: u32, size: u32| Values {
+            count: None,
+            starts: (0..count).collect(),
+            offsets: (0..count).map(|value| start + size * value).collect(),
+        };
+        // Four bytes of an Int, two of 9 Bools.
+        let columns = vec![values(0, 4), values(4 * count, 2)];
+        let data_part = rng.bytes(6 * count as usize);
+        data.push(DataBucket { number, index_offset: None, data: data_part, columns });
+    }
+    let rows = first_rows[data.len()];
+    let table = lean::bare(rows, endianness, columns, vec![Manager::new("IncrementalStMan", 0)]);
+    let size = 4 + 6 * 3 + 2 * (4 + 8 * 3);
+    let mut buckets = Buckets::new("IncrementalStMan", 5, endianness, size, BUCKETS);
+    buckets.free = free;
+    buckets.filler = Some(rng.number());
+    let file = IncrementalFile::new(buckets, endianness == 1, first_rows, data);
+    Subject { table, number: 0, file }
+}
+
+/// StandardStMan: buckets of 1,048,576 bytes, one of them filled by a Bool
+/// column of 8,388,608 rows; or only the index's bucket and no rows.
+pub fn large_bucket(rng: &mut Rng, variant: u64) -> Subject<StandardFile> {
+    let rows = if variant % 2 == 0 { 8_388_608 } else { 0 };
+    let columns = vec![Column::scalar(BOOL, "")];
+    let table = lean::bare(rows, 1, columns, vec![Manager::new("StandardStMan", 0)]);
+    let entries: &[(u32, u32)] = if rows > 0 { &[(rows - 1, 0)] } else { &[] };
+    let count = if rows > 0 { 2 } else { 1 };
+    let buckets = Buckets::new("StandardStMan", 3, 1, LARGEST, count);
+    let indices = vec![Index::new(8_388_608, 1, entries)];
+    let mut file = StandardFile::new(buckets, vec![count - 1], indices);
+    let length = file.text().bytes.len() as u32;
+    file.index_offset = rng.pick(&[8, LARGEST - length]);
+    Subject { table, number: 0, file }
+}
+
+#[cfg(test)]
+mod tests {
+    use super::*;
+    use crate::buckets::BucketFile;
+
+    #[test]
+    fn files_are_at_the_limits() {
+        for number in 0..3 {
+            let rng = &mut Rng::new(22, number);
+            let subject = standard(rng);
+            assert_eq!(subject.file.text().bytes.len(), TEXT);
+            assert_eq!(subject.file.text_room(), TEXT);
+            assert_eq!(subject.table.columns().len(), 64);
+            assert_eq!(subject.file.indices.len(), 16);
+            assert_eq!(subject.file.encode().len(), 512 + 4096 * 72);
+            assert_eq!(incremental(rng).file.buckets.count, 4096);
+        }
+    }
+}

@@ -1,0 +1,205 @@
+//! Request lines about a table and the file of one of its managers.
+
+use crate::buckets::{BucketFile, Subject};
+use crate::cells;
+use crate::hex::hex;
+use crate::rng::Rng;
+
+/// The longest room that is lent.
+const MAX_ROOM: usize = 1_048_576;
+
+/// What questions about a file choose from. It need not be right: the files
+/// may have faults.
+#[derive(Clone, Debug)]
+pub struct Asked {
+    pub table: Vec<u8>,
+    pub file: Vec<u8>,
+    /// The sequence number of the file's manager.
+    pub number: u32,
+    /// The sequence numbers of all managers.
+    pub numbers: Vec<u32>,
+    pub rows: u32,
+    /// Rows beside borders.
+    pub border_rows: Vec<u32>,
+    /// The positions of the manager's columns.
+    pub own: Vec<usize>,
+    /// A plan for each column of the table.
+    pub plans: Vec<[u64; 9]>,
+    /// Plans with mistakes that are easily made.
+    pub wrong_plans: Vec<[u64; 9]>,
+    pub index_length: usize,
+}
+
+impl Asked {
+    pub fn new<F: BucketFile>(subject: &Subject<F>) -> Self {
+        let Subject { table, number, file } = subject;
+        let plans: Vec<[u64; 9]> =
+            (0..table.columns().len()).map(|position| file.plan(table, position)).collect();
+        let wrong_plans = table
+            .columns()
+            .iter()
+            .zip(&plans)
+            .map(|(column, plan)| {
+                let mut wrong = *plan;
+                wrong[4] = cells::bits(column); // not rounded
+                wrong[5] = column.info.set.into();
+                wrong[6] = column.info.offset.into();
+                wrong
+            })
+            .collect();
+        Self {
+            table: table.encode(),
+            file: file.encode(),
+            number: *number,
+            numbers: table.managers().iter().map(|manager| manager.number).collect(),
+            rows: table.rows,
+            border_rows: file.border_rows(),
+            own: subject.own_columns(),
+            plans,
+            wrong_plans,
+            index_length: file.index_length(),
+        }
+    }
+
+    /// The line of a question: its word, the table and the file, and the
+    /// fields after them. The check has its sequence number between them.
+    pub fn check(&self, number: u64, room: usize) -> String {
+        format!("check {} {number} {} {room}", hex(&self.table), hex(&self.file))
+    }
+
+    pub fn plan(&self, position: u64, room: usize) -> String {
+        self.line("plan", &format!("{position} {room}"))
+    }
+
+    /// Place or view, by their word.
+    pub fn cell(&self, word: &str, row: u64, position: u64, room: usize) -> String {
+        self.line(word, &format!("{row} {position} {room}"))
+    }
+
+    /// Place or view by plan, by their word.
+    pub fn planned_cell(&self, word: &str, row: u64, plan: &[u64; 9], room: usize) -> String {
+        let fields: Vec<String> = plan.iter().map(u64::to_string).collect();
+        self.line(word, &format!("{row} {} {room}", fields.join(",")))
+    }
+
+    fn line(&self, word: &str, rest: &str) -> String {
+        format!("{word} {} {} {rest}", hex(&self.table), hex(&self.file))
+    }
+
+    /// Some question.
+    pub fn question(&self, rng: &mut Rng) -> String {
+        let room = self.room(rng);
+        match rng.below(40) {
+            0..=8 => self.check(self.some_number(rng), room),
+            9..=14 => self.plan(self.some_position(rng), room),
+            15..=22 => self.cell("place", self.some_row(rng), self.some_position(rng), room),
+            23..=28 => self.cell("view", self.some_row(rng), self.some_position(rng), room),
+            29..=33 => {
+                self.planned_cell("placeplan", self.some_row(rng), &self.some_plan(rng), room)
+            }
+            34..=38 => {
+                self.planned_cell("viewplan", self.some_row(rng), &self.some_plan(rng), room)
+            }
+            _ => match rng.below(3) {
+                0 => format!("describe {}", hex(&self.table)),
+                1 => format!("listing {}", hex(&self.table)),
+                _ => format!("column {} {}", hex(&self.table), hex(b"C0")),
+            },
+        }
+    }
+
+    fn room(&self, rng: &mut Rng) -> usize {
+        // A stated length may be out of range.
+        let length = if self.index_length <= 65_536 { self.index_length } else { 200 };
+        let room = match rng.below(20) {
+            0..=9 => length,
+            10..=15 => length + rng.within(1..=40),
+            16 => length.saturating_sub(1),
+            17 => 0,
+            18 => rng.below(length + 1),
+            _ => length + 300,
+        };
+        room.min(MAX_ROOM)
+    }
+
+    fn some_number(&self, rng: &mut Rng) -> u64 {
+        let own = u64::from(self.number);
+        match rng.below(24) {
+            0 if !self.numbers.is_empty() => rng.pick(&self.numbers).into(),
+            1 => own + 1,
+            2 => own ^ 1,
+            3 => own | 1 << 32,
+            4 => rng.pick(&[u64::MAX, 1 << 32, 1 << 63 | own, 255, u64::from(u32::MAX)]),
+            _ => own,
+        }
+    }
+
+    fn some_position(&self, rng: &mut Rng) -> u64 {
+        let columns = self.plans.len() as u64;
+        let own = if self.own.is_empty() { 0 } else { rng.pick(&self.own) as u64 };
+        match rng.below(24) {
+            0 | 1 => rng.below(columns as usize + 1) as u64,
+            2 => columns,
+            3 => own | 1 << 32,
+            4 => rng.pick(&[u64::MAX, columns + 1, 64, 1 << 63 | own, 256 + own]),
+            _ => own,
+        }
+    }
+
+    fn some_row(&self, rng: &mut Rng) -> u64 {
+        let rows = u64::from(self.rows);
+        let row = match rng.below(3) {
+            0 if rows > 0 => rng.number() % rows,
+            1 if rows > 0 => rows - 1,
+            _ if !self.border_rows.is_empty() => u64::from(rng.pick(&self.border_rows)),
+            _ => 0,
+        };
+        match rng.below(24) {
+            0 => rows,
+            1 => rows + 1,
+            2 => row | 1 << 32,
+            3 => rng.pick(&[u64::MAX, 1 << 63 | row, 1 << 31, 1 << 61 | row, rows | 1 << 32]),
+            4 => 0,
+            _ => row,
+        }
+    }
+
+    /// A fresh plan, or one that is stale in a field.
+    fn some_plan(&self, rng: &mut Rng) -> [u64; 9] {
+        let position = self.some_position(rng);
+        let Some(fresh) = self.plans.get(position as usize).filter(|plan| plan[0] == position)
+        else {
+            // No column: the other fields may be those of one.
+            let mut plan = if self.plans.is_empty() { [0; 9] } else { rng.pick(&self.plans) };
+            plan[0] = position;
+            return plan;
+        };
+        let mut plan = *fresh;
+        match rng.below(20) {
+            0..=5 => {
+                let field = rng.below(9);
+                plan[field] = match rng.below(6) {
+                    0 => plan[field].wrapping_add(1),
+                    1 => plan[field].wrapping_sub(1),
+                    2 => plan[field] | 1 << 32,
+                    3 => 0,
+                    4 => plan[field] ^ 1 << rng.below(64),
+                    _ => rng.pick(&[u64::MAX, 1, 16, 64]),
+                };
+            }
+            6 => plan = self.wrong_plans[position as usize],
+            7 => {
+                // Another column's plan for this position.
+                plan = rng.pick(&self.plans);
+                plan[0] = position;
+            }
+            8 => plan[0] = rng.below(self.plans.len() + 1) as u64,
+            9 => {
+                let value = rng.pick(&[0, 1, u64::MAX]);
+                plan[1..].fill(value);
+            }
+            _ => {}
+        }
+        plan
+    }
+}

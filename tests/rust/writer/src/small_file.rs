@@ -1,0 +1,232 @@
+//! Questions about document 01's small file: its cases A to L, and variants of
+//! each of them.
+
+use crate::buckets::{BucketFile, Subject};
+use crate::hex::hex;
+use crate::questions::Asked;
+use crate::samples;
+use crate::standard::{Index, StandardFile};
+use crate::table::{BOOL, Column, Manager, Table};
+
+type Small = Subject<StandardFile>;
+
+// Positions of the columns.
+const SCAN: usize = 0;
+const FLAG: usize = 1;
+const TIME: usize = 2;
+
+/// The index text's length.
+const TEXT: usize = 134;
+/// Plenty of room.
+const ROOM: usize = 150;
+
+/// All lines.
+pub fn lines() -> impl Iterator<Item = String> + Send {
+    let files = [small(1), small(0)];
+    let answers = files.into_iter().flat_map(|subject| {
+        let asked = Asked::new(&subject);
+        [rooms(&asked), cells(&asked)].concat()
+    });
+    answers.chain(variants().into_iter().flat_map(variant_lines)).chain(torn()).chain(changes())
+}
+
+/// The file in one of the byte orders.
+fn small(endianness: u32) -> Small {
+    let mut subject = samples::small_file();
+    subject.table.endianness = endianness;
+    subject.file.buckets.big_endian = endianness as u8;
+    subject
+}
+
+/// The big endian file after a change.
+fn after(change: impl FnOnce(&mut Small)) -> Small {
+    let mut subject = small(1);
+    change(&mut subject);
+    subject.table.write_infos();
+    subject
+}
+
+/// Every question with every kind of room.
+fn rooms(asked: &Asked) -> Vec<String> {
+    let mut lines = Vec::new();
+    for room in [0, 1, 56, TEXT - 1, TEXT, TEXT + 1, TEXT + 66] {
+        lines.push(asked.check(0, room));
+        lines.push(asked.check(1, room));
+        lines.push(asked.plan(TIME as u64, room));
+        lines.push(asked.plan(3, room));
+        lines.push(asked.cell("place", 5, TIME as u64, room));
+        lines.push(asked.cell("view", 5, TIME as u64, room));
+        lines.push(asked.planned_cell("placeplan", 5, &asked.plans[TIME], room));
+        lines.push(asked.planned_cell("viewplan", 5, &asked.plans[TIME], room));
+    }
+    lines
+}
+
+/// A to F: every cell, rows past the end, and columns that are not there.
+fn cells(asked: &Asked) -> Vec<String> {
+    let mut lines = Vec::new();
+    for position in 0..4 {
+        for row in (0..9).chain([1 << 32, u64::MAX]) {
+            let position = position as u64;
+            lines.push(asked.cell("place", row, position, TEXT));
+            lines.push(asked.cell("view", row, position, TEXT));
+            let fresh = asked.plans.get(position as usize).copied().unwrap_or([position; 9]);
+            lines.push(asked.planned_cell("placeplan", row, &fresh, TEXT));
+            lines.push(asked.planned_cell("viewplan", row, &fresh, TEXT));
+        }
+    }
+    // Plans that are stale in each field, for a row that is there and one
+    // that is not.
+    for field in 0..9 {
+        for value in [0, 1, 2, 7, 1 << 32, u64::MAX] {
+            for (word, row) in [("placeplan", 5), ("viewplan", 5), ("placeplan", 7)] {
+                let mut plan = asked.plans[FLAG];
+                plan[field] = value;
+                lines.push(asked.planned_cell(word, row, &plan, TEXT));
+            }
+        }
+    }
+    lines
+}
+
+/// A variant: its check, and a place and view of each column in its last row.
+fn variant_lines(subject: Small) -> Vec<String> {
+    let asked = Asked::new(&subject);
+    let mut lines = vec![asked.check(0, ROOM)];
+    let row = u64::from(subject.table.rows).saturating_sub(1);
+    for position in 0..subject.table.columns().len() as u64 {
+        lines.push(asked.cell("place", row, position, ROOM));
+        lines.push(asked.cell("view", row, position, ROOM));
+    }
+    lines
+}
+
+/// G to L, and values beside those that they name.
+fn variants() -> Vec<Small> {
+    let mut variants = Vec::new();
+    let mut add = |change: &dyn Fn(&mut Small)| variants.push(after(change));
+    let at = |position: usize, offset: u32| {
+        move |subject: &mut Small| subject.table.columns_mut()[position].info.offset = offset
+    };
+    // G and J: TIME at 16 and 33 are wrong, at 17 to 32 right; the others too.
+    for offset in 0..=40 {
+        add(&at(TIME, offset));
+    }
+    for offset in [0, 1, 15, 16, 17, 48, 49, 50, 63, 64, u32::MAX] {
+        add(&at(FLAG, offset));
+        add(&at(SCAN, offset));
+    }
+    // H: last rows, with the rows that go with them.
+    for first in 0..=5 {
+        for second in 0..=9 {
+            for rows in [second + 1, 7] {
+                add(&|subject| {
+                    set_rows(&mut subject.table, rows);
+                    subject.file.indices[0].last_rows.elements = vec![first, second];
+                });
+            }
+        }
+    }
+    // I: the number of index buckets, and the chain.
+    for count in (0..=6).chain([4096, u32::MAX]) {
+        add(&|subject| subject.file.index_buckets = Some(count));
+    }
+    for link in -2..=6 {
+        add(&|subject| subject.file.first_index = Some(link));
+        for bucket in [1, 3, 4] {
+            add(&|subject| {
+                subject.file.buckets.patch(bucket, 0, &[link.to_be_bytes(); 2].concat());
+            });
+            add(&|subject| subject.file.buckets.patch(bucket, 4, &link.to_be_bytes()));
+        }
+    }
+    for length in [0, 1, TEXT - 1, TEXT, TEXT + 1, 167, 168, 169, 65_536, 65_537] {
+        add(&|subject| subject.file.index_length = Some(length as u32));
+    }
+    for offset in 0..=10 {
+        add(&|subject| subject.file.index_offset = offset);
+    }
+    // K: the header's length.
+    for length in [0, 24, 25, 66, 69, 70, 71, 508, 509] {
+        add(&|subject| subject.file.buckets.header.stated = Some(length));
+    }
+    // Buckets of the entries, free buckets, and the numbers of the header.
+    for first in 0..=5 {
+        for second in 0..=5 {
+            add(&|subject| subject.file.indices[0].buckets.elements = vec![first, second]);
+        }
+    }
+    for first in -2..=5 {
+        for count in 0..=2 {
+            add(&|subject| {
+                subject.file.buckets.first_free = Some(first);
+                subject.file.buckets.free_count = Some(count);
+            });
+        }
+    }
+    for value in 0..=5 {
+        add(&|subject| subject.file.buckets.header.version = value);
+        add(&|subject| subject.file.buckets.big_endian = value as u8);
+        add(&|subject| subject.file.buckets.stated_count = Some(value));
+        add(&|subject| subject.file.index_count = Some(value));
+        add(&|subject| subject.file.indices[0].columns = value as i32 - 1);
+        add(&|subject| subject.file.indices[0].rows_per_bucket = value);
+        add(&|subject| subject.file.indices[0].entries = Some(value));
+        add(&|subject| set_rows(&mut subject.table, value));
+        add(&|subject| subject.table.columns_mut()[FLAG].info.set = value);
+    }
+    for size in [15, 16, 63, 64, 65, 1_048_576, 1_048_577] {
+        add(&|subject| subject.file.buckets.stated_size = Some(size));
+    }
+    add(&|subject| *subject = eight_bools());
+    variants
+}
+
+fn set_rows(table: &mut Table, rows: u32) {
+    table.rows = rows;
+    table.column_set.rows = rows;
+}
+
+/// L: 8 Bools in each row, at offset 0 of bucket 0.
+fn eight_bools() -> Small {
+    let columns = vec![Column::direct(BOOL, "FLAG", &[8])];
+    let table = Table::new(2, 1, columns, vec![Manager::new("StandardStMan", 0)]);
+    let mut file = samples::small_file().file;
+    file.indices = vec![Index::new(4, 1, &[(1, 0)])];
+    Subject { table, number: 0, file }
+}
+
+/// Every prefix of the file.
+fn torn() -> impl Iterator<Item = String> + Send {
+    let mut asked = Asked::new(&small(1));
+    let whole = asked.file.clone();
+    (0..=whole.len()).map(move |length| {
+        asked.file = whole[..length].to_vec();
+        asked.check(0, ROOM)
+    })
+}
+
+/// Changes of each byte of the header and of the index buckets.
+fn changes() -> impl Iterator<Item = String> + Send {
+    let subject = small(1);
+    let table = hex(&subject.table.encode());
+    let whole = subject.file.encode();
+    let header = 0..subject.file.header().len();
+    let index = [1, 3, 4].into_iter().flat_map(move |bucket| {
+        let start = subject.file.buckets.start(bucket);
+        start..start + 64
+    });
+    header.chain(index).flat_map(move |place| {
+        let byte = whole[place];
+        let mut values = vec![0, 1, 2, 255, byte ^ 1, byte ^ 0x80, byte.wrapping_add(1)];
+        values.sort_unstable();
+        values.dedup();
+        values.retain(|value| *value != byte);
+        let (table, whole) = (table.clone(), whole.clone());
+        values.into_iter().map(move |value| {
+            let mut file = whole.clone();
+            file[place] = value;
+            format!("check {table} 0 {} {ROOM}", hex(&file))
+        })
+    })
+}
