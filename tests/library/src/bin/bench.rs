@@ -20,7 +20,7 @@ fn best(mut work: impl FnMut(), calls: u32) -> Duration {
 
 fn compare(what: &str, table: &[u8], calls: u32) {
     assert!(model::describe(table).is_ok() && library::description(table).is_ok(), "{what} is accepted");
-    let ours = best(|| _ = black_box(library::column(black_box(table), black_box(0))), calls);
+    let ours = best(|| _ = black_box(library::description(black_box(table))), calls);
     let theirs = best(|| _ = black_box(model::describe(black_box(table))), calls);
     println!(
         "{what:<44} {:>8.3} us {:>8.3} us  {:>5.2}",
