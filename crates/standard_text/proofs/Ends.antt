@@ -1,0 +1,76 @@
+-- Readers do not leave the object that they read in: the end of an unrefused cursor is not after the end before.
+--     Stays      a refused cursor stays as it is, and an unrefused one ends no later
+-- Assumes nothing.
+use mathlib.Core.Path.{_≡_, ap}
+use mathlib.Core.List.{List}
+use Prim.Native.Nat.{ℕ, suc, _≤_}
+use native.Mathlib.Omega.{arith}
+use Rattle.bytes_at.specs.Steps.{_>>=_}
+use Rattle.aipsio.specs.declared.Cursor.{Cursor}
+use Rattle.aipsio.specs.declared.Value.{Value}
+use Rattle.aipsio.specs.Field.{settled, sizedAt, uintAt, rangedAt, markAt}
+use Rattle.aipsio.specs.Object.{opened, closed, blockAt, mapAt}
+use Rattle.aipsio.proofs.Kept.{Clean, Keeps, keeps-same, clean-before, sized-reads, ranged-reads, opened-reads, closed-keeps, block-reads, map-keeps, _⨟_}
+use Rattle.aipsio.proofs.Accepted.{uint-is, sized-is, ranged-is, closed-is, opened-inside}
+
+pub record Stays (c d : Cursor) : Type 0 where
+  pub keeps : Keeps c d
+  pub ends : Clean d → d .end ≤ c .end
+
+pub stays-same : (c : Cursor) → Stays c c
+stays-same c = record { keeps = keeps-same c; ends = λ h. omega arith }
+
+-- one reader after another
+infixr 20 _then_
+pub _then_ : {c d e : Cursor} → Stays c d → Stays d e → Stays c e
+a then b = record {
+  keeps = a .keeps ⨟ b .keeps;
+  ends = λ h. let p = b .ends h in let q = a .ends (clean-before (b .keeps) h) in omega arith;
+}
+
+end-of : {c d : Cursor} → c ≡ d → c .end ≤ d .end
+end-of e = let p = ap (λ (x : Cursor). x .end) e in omega arith
+
+module _ (s : List ℕ) (c : Cursor) where
+  sized-stays : (width : ℕ) → Stays c (sizedAt s c width .next)
+  sized-stays width = record { keeps = sized-reads s c width .keeps; ends = λ h. end-of (ap (λ (v : Value). v .next) (sized-is s c width h)) }
+
+  pub uint-stays : Stays c (uintAt s c .next)
+  uint-stays = rw (uint-is s c) (sized-stays 4)
+
+  pub ranged-stays : (width low high n : ℕ) → Stays c (rangedAt s c width low high (suc n) .next)
+  ranged-stays width low high n = record {
+    keeps = ranged-reads s c width low high (suc n) .keeps;
+    ends = λ h. let r = ranged-is s c width low high n h in rw r (sized-stays width .ends (rw r at h));
+  }
+
+  pub mark-stays : Stays c (markAt s c)
+  unfolding markAt _>>=_
+  mark-stays = ranged-stays 4 0xbebebebe 0xbebebebe 1
+
+  pub opened-stays : (expected : List ℕ) (low high : ℕ) → Stays c (opened s c expected low high .next)
+  opened-stays expected low high = record {
+    keeps = opened-reads s c expected low high .keeps;
+    ends = λ h. opened-inside s c expected low high h .within;
+  }
+
+  map-ends : Clean (mapAt s c) → mapAt s c .end ≤ c .end
+  unfolding mapAt _>>=_
+  map-ends h = end-of (closed-is _ c h)
+
+  pub map-stays : Stays c (mapAt s c)
+  map-stays = record { keeps = map-keeps s c; ends = map-ends }
+
+  block-ends : (n size : ℕ) → Clean (blockAt s c n size .next) → blockAt s c n size .next .end ≤ c .end
+  unfolding blockAt settled _>>=_
+  block-ends n size h = end-of (closed-is _ c h)
+
+  pub block-stays : (n size : ℕ) → Stays c (blockAt s c n size .next)
+  block-stays n size = record { keeps = block-reads s c n size .keeps; ends = block-ends n size }
+
+-- out of an object, to the end of its container
+pub closed-stays : {c outer d : Cursor} → Stays c outer → Stays outer d → Stays c (closed d outer)
+closed-stays {outer = outer} {d = d} a b = record {
+  keeps = a .keeps ⨟ b .keeps ⨟ closed-keeps d outer;
+  ends = λ h. let p = end-of (closed-is d outer h) in let q = a .ends (clean-before (b .keeps ⨟ closed-keeps d outer) h) in omega arith;
+}
