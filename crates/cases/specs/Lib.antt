@@ -1,0 +1,2 @@
+-- The bytes of the small file.
+pub mod SmallFile

@@ -1,0 +1,8 @@
+-- Laws of the questions, demand 3, and stale plans.
+pub mod Columns
+pub mod Stages
+pub mod Places
+pub mod Low
+pub mod Refusals
+pub mod Plans
+pub mod Fresh

@@ -1,0 +1,219 @@
+-- Document 01, "The questions" and "Refusal numbers": what each question answers, and the room afterwards.
+use Prim.Native.Nat.{ℕ, _/_}
+use mathlib.Core.List.{List}
+use mathlib.Core.Bool.{Bool, true, false, cond, _&&_, _||_, not}
+use lib.ListN.{length, getD, take, drop, replicate}
+use lib.Dec.{ltb, eqb}
+use Rattle.bytes_at.specs.First.{firstBelow}
+use Rattle.bytes_at.specs.Stages.{_▷_, orNo}
+use Rattle.bytes_at.specs.Steps.{_>>=_}
+use Rattle.column_desc.specs.declared.Column.{Column}
+use Rattle.column_desc.specs.ColumnDesc.{blank}
+use Rattle.column_set.specs.declared.Kind.{Kind}
+use Rattle.column_set.specs.declared.Kind.the-variants.{Other, Standard, Incremental}
+use Rattle.column_set.specs.declared.Manager.{Manager}
+use Rattle.column_set.specs.declared.Binding.{Binding}
+use Rattle.column_set.specs.ColumnSet.{noManager, noBinding}
+use Rattle.table.specs.declared.Description.{Description}
+use Rattle.table.specs.Table.{describedAs}
+use Rattle.buckets.specs.Chain.{padded}
+use Rattle.cell_map.specs.Map.{Bits, placeOf}
+use Rattle.standard_text.specs.Header.{headerAt}
+use Rattle.standard_text.specs.Index.{noSet}
+use Rattle.standard_rules.specs.declared.Checked.{Checked}
+use Rattle.standard_rules.specs.Rules.{textOf, mapOf, checkedAs}
+use Rattle.lookup_rules.specs.declared.Plan.{Plan}
+use Rattle.lookup_rules.specs.declared.Question.{Question}
+use Rattle.lookup_rules.specs.declared.Question.the-variants.{Check, Prepare, Place, PlacePlanned, View, ViewPlanned}
+use Rattle.lookup_rules.specs.declared.Target.{Target}
+use Rattle.lookup_rules.specs.declared.Staged.{Staged}
+use Rattle.lookup_rules.specs.declared.Answer.{Answer}
+use Rattle.lookup_rules.specs.declared.Verdict.{Verdict}
+use Rattle.lookup_rules.specs.declared.Verdict.the-variants.{Accepted, Refused as NotAccepted}
+use Rattle.lookup_rules.specs.declared.Planned.{Planned}
+use Rattle.lookup_rules.specs.declared.Planned.the-variants.{Ready, Refused as NotPlanned}
+use Rattle.lookup_rules.specs.declared.Placed.{Placed}
+use Rattle.lookup_rules.specs.declared.Placed.the-variants.{At, Refused as NotPlaced}
+
+-- the row that a question asks for, 0 where it asks for none
+abbrev pub rowOf : Question → ℕ
+rowOf (Check n) = 0
+rowOf (Prepare c) = 0
+rowOf (Place row c) = row
+rowOf (PlacePlanned row p) = row
+rowOf (View row c) = row
+rowOf (ViewPlanned row p) = row
+
+-- the column that it asks for, 0 where it asks for none; "a plan's cell is in the plan's column"
+abbrev pub positionOf : Question → ℕ
+positionOf (Check n) = 0
+positionOf (Prepare c) = c
+positionOf (Place row c) = c
+positionOf (PlacePlanned row p) = p .position
+positionOf (View row c) = c
+positionOf (ViewPlanned row p) = p .position
+
+-- the sequence number that a check is for; the other questions take the column's
+abbrev pub sequenceOf : Question → ℕ → ℕ
+sequenceOf (Check n) own = n
+sequenceOf (Prepare c) own = own
+sequenceOf (Place row c) own = own
+sequenceOf (PlacePlanned row p) own = own
+sequenceOf (View row c) own = own
+sequenceOf (ViewPlanned row p) own = own
+
+-- whether the column exists; a check asks for none
+abbrev pub isColumn : Question → ℕ → Bool
+isColumn (Check n) count = true
+isColumn (Prepare c) count = ltb c count
+isColumn (Place row c) count = ltb c count
+isColumn (PlacePlanned row p) count = ltb (p .position) count
+isColumn (View row c) count = ltb c count
+isColumn (ViewPlanned row p) count = ltb (p .position) count
+
+-- the binding of the column at a position
+abbrev pub bindingAt : Description → ℕ → Binding
+bindingAt d position = getD (d .bindings) position noBinding
+
+-- the kind of the first manager with a sequence number; there is none where no manager has it
+unfoldable pub kindWith : List Manager → ℕ → ℕ → Kind
+kindWith managers count sequence =
+    getD managers (firstBelow (λ (k : ℕ). eqb (getD managers k noManager .number) sequence) count) noManager .kind
+
+abbrev pub isStandard : Kind → Bool
+isStandard Other = false
+isStandard Standard = true
+isStandard Incremental = false
+
+-- "no such column or manager, or the manager is not of the asked kind": 8
+unfoldable pub targetOf : Description → Question → Target
+targetOf d q = do
+  position ← positionOf q
+  column ← isColumn q (d .«column_count»)
+  r1 ← d .refused ▷ orNo column 8
+  own ← bindingAt d position .sequence
+  sequence ← sequenceOf q own
+  kind ← kindWith (d .managers) (d .«manager_count») sequence
+  known ← isStandard kind
+  r2 ← r1 ▷ orNo known 8
+  record { refused = r2; position = position; sequence = sequence }
+
+-- "a plain record of position, sequence number, data type, element count, cell bits, set, offset, rows per bucket and bucket
+-- size", of the column at a position now
+unfoldable pub planFor : Description → Checked → ℕ → Plan
+planFor d m position = do
+  c ← getD (d .columns) position blank
+  b ← getD (d .bindings) position noBinding
+  s ← getD (m .sets) (b .set) noSet
+  record {
+    position = position;
+    sequence = b .sequence;
+    datatype = c .datatype .number;
+    elements = c .elements;
+    bits = c .bits;
+    set = b .set;
+    offset = b .offset;
+    per = s .per;
+    size = m .size;
+  }
+
+-- two plans that agree in every field
+unfoldable pub samePlan : Plan → Plan → Bool
+samePlan a b = do
+  r1 ← eqb (a .position) (b .position) && eqb (a .sequence) (b .sequence)
+  r2 ← r1 && eqb (a .datatype) (b .datatype)
+  r3 ← r2 && eqb (a .elements) (b .elements)
+  r4 ← r3 && eqb (a .bits) (b .bits)
+  r5 ← r4 && eqb (a .set) (b .set)
+  r6 ← r5 && eqb (a .offset) (b .offset)
+  r7 ← r6 && eqb (a .per) (b .per)
+  r7 && eqb (a .size) (b .size)
+
+-- a prepared plan is the one that would be made now, else 12
+abbrev pub isFresh : Question → Plan → Bool
+isFresh (Check n) p = true
+isFresh (Prepare c) p = true
+isFresh (Place row c) p = true
+isFresh (PlacePlanned row a) p = samePlan a p
+isFresh (View row c) p = true
+isFresh (ViewPlanned row a) p = samePlan a p
+
+-- "row not below the row count": 9
+abbrev pub isBelow : Question → ℕ → Bool
+isBelow (Check n) rows = true
+isBelow (Prepare c) rows = true
+isBelow (Place row c) rows = ltb row rows
+isBelow (PlacePlanned row p) rows = ltb row rows
+isBelow (View row c) rows = ltb row rows
+isBelow (ViewPlanned row p) rows = ltb row rows
+
+-- "view of a Bool column, scalar or any array": 14
+abbrev pub isSeen : Question → ℕ → Bool
+isSeen (Check n) datatype = true
+isSeen (Prepare c) datatype = true
+isSeen (Place row c) datatype = true
+isSeen (PlacePlanned row p) datatype = true
+isSeen (View row c) datatype = not (eqb datatype 0)
+isSeen (ViewPlanned row p) datatype = not (eqb datatype 0)
+
+-- "Order: table, manager and column (8), file check, plan (12), row (9), 14."
+unfoldable pub stagesOf : List ℕ → List ℕ → Question → ℕ → Staged
+stagesOf t f q l = do
+  d ← describedAs t
+  g ← targetOf d q
+  m ← checkedAs d (g .sequence) f (g .refused) l
+  p ← planFor d m (g .position)
+  fresh ← isFresh q p
+  r1 ← m .refused ▷ orNo fresh 12
+  below ← isBelow q (d .rows)
+  r2 ← r1 ▷ orNo below 9
+  seen ← isSeen q (p .datatype)
+  r3 ← r2 ▷ orNo seen 14
+  record { refused = r3; plan = p; sequence = g .sequence }
+
+-- the bits that a question asks for; a check and a plan ask for none
+abbrev pub bitsFor : Question → Bits → Bits
+bitsFor (Check n) b = record { first = 0; count = 0 }
+bitsFor (Prepare c) b = record { first = 0; count = 0 }
+bitsFor (Place row c) b = b
+bitsFor (PlacePlanned row p) b = b
+bitsFor (View row c) b = b
+bitsFor (ViewPlanned row p) b = b
+
+abbrev pub noPlan : Plan
+noPlan = record { position = 0; sequence = 0; datatype = 0; elements = 0; bits = 0; set = 0; offset = 0; per = 0; size = 0 }
+
+-- "A refusal carries its number and zeros."
+unfoldable pub answered : Staged → Bits → Answer
+answered s b =
+    cond (eqb (s .refused) 0)
+    (record { refused = 0; plan = s .plan; first = b .first; count = b .count })
+    (record { refused = s .refused; plan = noPlan; first = 0; count = 0 })
+
+unfoldable pub answerOf : List ℕ → List ℕ → Question → ℕ → Answer
+answerOf t f q l =
+    let s = stagesOf t f q l in
+    answered s (bitsFor q (placeOf (mapOf (describedAs t) (s .sequence) f) (rowOf q) (positionOf q)))
+
+-- "It is all zero after every refusal; after acceptance in StandardStMan it holds the index text, then zeros."
+unfoldable pub roomAfter : List ℕ → List ℕ → Question → ℕ → List ℕ
+roomAfter t f q l =
+    cond (eqb (stagesOf t f q l .refused) 0)
+    (padded l (textOf f (headerAt f (describedAs t .big))))
+    (replicate l 0)
+
+-- File check
+unfoldable pub verdictOf : Answer → Verdict
+verdictOf a = cond (eqb (a .refused) 0) Accepted (NotAccepted (a .refused))
+
+-- Plan
+unfoldable pub planOf : Answer → Planned
+planOf a = cond (eqb (a .refused) 0) (Ready (a .plan)) (NotPlanned (a .refused))
+
+-- Place: "first bit and bit count, counted from the file's start"
+unfoldable pub placedOf : Answer → Placed
+placedOf a = cond (eqb (a .refused) 0) (At (a .first) (a .count)) (NotPlaced (a .refused))
+
+-- View: "the part of the caller's file that holds the cell. A refused view is the empty part"
+unfoldable pub viewOf : List ℕ → Answer → List ℕ
+viewOf f a = take (a .count / 8) (drop (a .first / 8) f)

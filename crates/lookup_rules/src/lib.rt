@@ -1,0 +1,63 @@
+// The questions File check, Plan, Place and View (document 01, "The questions"), as definitions over the bytes of both files:
+// `specs/`. The code that answers them is in `lookup`.
+
+// A prepared plan: nine numbers in document 01's order. `datatype` is the data type's number, `per` the rows per bucket.
+pub struct Plan {
+    pub position: usize,
+    pub sequence: usize,
+    pub datatype: usize,
+    pub elements: usize,
+    pub bits: usize,
+    pub set: usize,
+    pub offset: usize,
+    pub per: usize,
+    pub size: usize,
+}
+
+// A question: the check of a sequence number; the plan of a position; the place, or the view, of a row and a position or a
+// plan.
+pub enum Question {
+    Check(usize),
+    Prepare(usize),
+    Place(usize, usize),
+    PlacePlanned(usize, Plan),
+    View(usize, usize),
+    ViewPlanned(usize, Plan),
+}
+
+// The column and the manager that a question is about, and the refusal so far.
+pub struct Target {
+    pub refused: usize,
+    pub position: usize,
+    pub sequence: usize,
+}
+
+// The refusal after all stages, the fresh plan, and the manager's sequence number.
+pub struct Staged {
+    pub refused: usize,
+    pub plan: Plan,
+    pub sequence: usize,
+}
+
+// The number and zeros; or 0, the plan, and for a place or a view the first bit and the bit count.
+pub struct Answer {
+    pub refused: usize,
+    pub plan: Plan,
+    pub first: usize,
+    pub count: usize,
+}
+
+pub enum Verdict {
+    Accepted,
+    Refused(usize),
+}
+
+pub enum Planned {
+    Ready(Plan),
+    Refused(usize),
+}
+
+pub enum Placed {
+    At { first: usize, count: usize },
+    Refused(usize),
+}

@@ -1,0 +1,146 @@
+-- The loops that count the columns of each set, and that compare the counts.
+-- Assumes nothing.
+use mathlib.Core.Path.{_≡_, refl, sym, ap, _∙_}
+use mathlib.Core.Bool.{Bool, true, false, cond, _&&_}
+use mathlib.Core.List.{List, []}
+use Prim.Native.Nat.{ℕ, zero, suc, _+_, _-_, _≤_, _<_, zero-le}
+use native.Mathlib.Decide.{ℕ-discrete, decLt}
+use native.Mathlib.Numerals.{add-one}
+use native.Mathlib.Omega.{arith}
+use lib.ListN.{length, getD, set, replicate, length-set, getD-replicate, List·getD-eq-default}
+use lib.Seq.{getD-set-same, getD-set-other}
+use lib.Dec.{eqb}
+use borrow.Author.Tests.{eq-eqb, ne-eqb}
+use Rattle.column_set.specs.declared.Binding.{Binding}
+use Rattle.column_set.specs.ColumnSet.{noBinding}
+use Rattle.cell_map.specs.Tests.{allFrom}
+use Rattle.cell_map.specs.Map.{Column as MapColumn}
+use Rattle.cell_map.specs.Fits.{boundTo, countFits}
+use Rattle.standard_text.specs.declared.Set.{Set}
+use Rattle.standard_text.specs.Index.{noSet}
+use Rattle.standard_rules.specs.Rules.{setsFrom, columnsFrom}
+use Rattle.standard_columns.specs.Columns.{oneMore, Counted, CountsFit}
+use Rattle.standard_columns.proofs.Listed.{listed}
+use Rattle.standard_columns.proofs.Facts.{columnIn, columns-listed}
+
+-- one more where a test passes
+abbrev more : Bool → ℕ → ℕ
+more t r = cond t (suc r) r
+
+more-swap : (a b : Bool) (r : ℕ) → more a (more b r) ≡ more b (more a r)
+more-swap true true r = refl
+more-swap true false r = refl
+more-swap false true r = refl
+more-swap false false r = refl
+
+more-le : (t : Bool) (r high : ℕ) → r ≤ high → more t r ≤ suc high
+more-le true r high h = omega arith
+more-le false r high h = omega arith
+
+bound-more : (f : ℕ → MapColumn) (k n i : ℕ)
+    → boundTo k (listed f (suc n) i) ≡ more (f (n + i) .kept && eqb (f (n + i) .set) k) (boundTo k (listed f n i))
+unfolding listed boundTo
+bound-more f k zero i = let e : 0 + i ≡ i = omega arith in rw e
+bound-more f k (suc n) i =
+    let e : suc n + i ≡ n + suc i = omega arith in
+    let t = f i .kept && eqb (f i .set) k in
+    rw e (ap (more t) (bound-more f k n (suc i)) ∙ more-swap t (f (n + suc i) .kept && eqb (f (n + suc i) .set) k) (boundTo k (listed f n (suc i))))
+
+bound-le : (f : ℕ → MapColumn) (k n i : ℕ) → boundTo k (listed f n i) ≤ n
+unfolding listed boundTo
+bound-le f k zero i = zero-le
+bound-le f k (suc n) i = more-le (f i .kept && eqb (f i .set) k) (boundTo k (listed f n (suc i))) n (bound-le f k n (suc i))
+
+one-more-at : (kept : Bool) (s : ℕ) (counts : List ℕ) (k : ℕ) → k < length counts
+    → getD (oneMore kept s counts) k 0 ≡ more (kept && eqb s k) (getD counts k 0)
+one-more-at false s counts k h = refl
+one-more-at true s counts k h = elim (ℕ-discrete s k) [
+  | yes e ↦ rw (e, eq-eqb k k refl, getD-set-same counts k (getD counts k 0 + 1) 0 h, add-one)
+  | no e ↦ rw (ne-eqb s k e) (getD-set-other counts s k (getD counts s 0 + 1) 0 (λ q. e (sym q)))
+]
+
+one-more-length : (kept : Bool) (s : ℕ) (counts : List ℕ) → length (oneMore kept s counts) ≡ length counts
+one-more-length true s counts = length-set counts s (getD counts s 0 + 1)
+one-more-length false s counts = refl
+
+-- ---- counting: the first i columns are counted
+pub record Counting (sequence : ℕ) (bs : List Binding) (n : ℕ) (counts : List ℕ) (i : ℕ) : Type 0 where
+  pub within : i ≤ n
+  pub long : length counts ≡ 16
+  pub counted : Counted counts sequence bs i
+
+pub counting-start : (sequence : ℕ) (bs : List Binding) (n : ℕ) → Counting sequence bs n (replicate 16 0) 0
+unfolding columnsFrom boundTo
+counting-start sequence bs n = record { within = zero-le; long = refl; counted = λ cs k h. getD-replicate 16 k 0 0 h }
+
+module _ {sequence : ℕ} {bs : List Binding} {n : ℕ} {counts : List ℕ} {i : ℕ} (v : Counting sequence bs n counts i) where
+  -- no count overflows
+  pub counting-le : n ≤ 64 → (k : ℕ) → getD counts k 0 ≤ 64
+  counting-le h k = elim (decLt k 16) [
+    | yes l ↦
+        let e : getD counts k 0 ≡ boundTo k (listed (columnIn sequence [] bs) i 0) = v .counted [] k l ∙ ap (boundTo k) (columns-listed sequence [] bs i 0) in
+        omega (arith, e, v .within, bound-le (columnIn sequence [] bs) k i 0)
+    | no l ↦ omega (arith, List·getD-eq-default counts 0 {n = k} (omega (arith, v .long)))
+  ]
+
+  pub counting-again : {r : List ℕ} → i < n → r ≡ oneMore (eqb (getD bs i noBinding .sequence) sequence) (getD bs i noBinding .set) counts
+      → Counting sequence bs n r (i + 1)
+  counting-again {r} h e =
+      let kept = eqb (getD bs i noBinding .sequence) sequence in
+      let s = getD bs i noBinding .set in
+      record {
+        within = omega arith;
+        long = ap length e ∙ one-more-length kept s counts ∙ v .long;
+        counted = λ cs k l.
+            let z : i + 0 ≡ i = omega arith in
+            let step : boundTo k (columnsFrom sequence cs bs (suc i) 0) ≡ more (kept && eqb s k) (boundTo k (columnsFrom sequence cs bs i 0)) =
+            rw (columns-listed sequence cs bs (suc i) 0, columns-listed sequence cs bs i 0) (bound-more (columnIn sequence cs bs) k i 0 ∙ rw z)
+            in
+            ap (λ x. getD x k 0) e
+            ∙ one-more-at kept s counts k (omega (arith, v .long))
+            ∙ ap (more (kept && eqb s k)) (v .counted cs k l)
+            ∙ sym step
+            ∙ ap (λ j. boundTo k (columnsFrom sequence cs bs j 0)) (sym (add-one i));
+      }
+
+  pub counting-end : n ≤ i → Counted counts sequence bs n
+  counting-end h = let e : i ≡ n = omega (arith, v .within) in rw (← e) (v .counted)
+
+-- ---- comparing: whatever columns the counts are of, the test of the sets from k on is the test of all
+abbrev CountsOf : List ℕ → List MapColumn → Type 0
+CountsOf counts l = (k : ℕ) → k < 16 → getD counts k 0 ≡ boundTo k l
+
+pub record Comparing (counts : List ℕ) (sets : List Set) (m k : ℕ) : Type 0 where
+  pub within : k ≤ m
+  pub same : (text : List ℕ) (l : List MapColumn) → CountsOf counts l
+      → allFrom (countFits l) 0 (setsFrom text sets m 0) ≡ allFrom (countFits l) k (setsFrom text sets (m - k) k)
+
+pub comparing-start : (counts : List ℕ) (sets : List Set) (m : ℕ) → Comparing counts sets m 0
+comparing-start counts sets m =
+    let e : m ≡ m - 0 = omega arith in
+    record { within = zero-le; same = λ text l w. ap (λ j. allFrom (countFits l) 0 (setsFrom text sets j 0)) e }
+
+module _ {counts : List ℕ} {sets : List Set} {m k : ℕ} (v : Comparing counts sets m k) where
+  one : (text : List ℕ) (l : List MapColumn) → CountsOf counts l → m ≤ 16 → k < m
+      → allFrom (countFits l) 0 (setsFrom text sets m 0)
+      ≡ (eqb (getD counts k 0) (getD sets k noSet .columns) && allFrom (countFits l) (k + 1) (setsFrom text sets (m - (k + 1)) (k + 1)))
+  unfolding allFrom setsFrom
+  one text l w g h =
+      let e : m - k ≡ suc (m - (k + 1)) = omega arith in
+      v .same text l w ∙ rw (e, add-one, w k (omega arith))
+
+  pub comparing-again : m ≤ 16 → k < m → getD counts k 0 ≡ getD sets k noSet .columns → Comparing counts sets m (k + 1)
+  comparing-again g h q =
+      record {
+        within = omega arith;
+        same = λ text l w. one text l w g h ∙ rw (eq-eqb (getD counts k 0) (getD sets k noSet .columns) q);
+      }
+
+  module _ (sequence : ℕ) (bs : List Binding) (n : ℕ) (w : Counted counts sequence bs n) where
+    pub comparing-not : m ≤ 16 → k < m → (getD counts k 0 ≡ getD sets k noSet .columns → ⊥) → CountsFit false sequence bs n sets m
+    comparing-not g h q text cs =
+        sym (one text (columnsFrom sequence cs bs n 0) (w cs) g h ∙ rw (ne-eqb (getD counts k 0) (getD sets k noSet .columns) q))
+
+    pub comparing-end : m ≤ k → CountsFit true sequence bs n sets m
+    unfolding allFrom setsFrom
+    comparing-end h text cs = let e : m - k ≡ 0 = omega arith in sym (v .same text (columnsFrom sequence cs bs n 0) (w cs) ∙ rw e)

@@ -1,0 +1,28 @@
+-- `standard_columns::one_more` meets its contract: a store past the end changes nothing.
+use mathlib.Core.Path.{sym}
+use native.Mathlib.Omega.{arith}
+use borrow.Author.Needs.{needs}
+use lib.Seq.{set-out}
+use Rattle.standard_columns.proofs.one_more.Statement.{statement}
+use Rattle.standard_columns.proofs.one_more.Tie as tie
+
+returns : tie.Need-returns
+returns c = rw (c .before .if1 .taken)
+
+returns-2 : tie.Need-returns-2
+returns-2 c = rw (c .before .if1 .taken) (sym (set-out _ _ _ (omega arith)))
+
+returns-3 : tie.Need-returns-3
+returns-3 c = rw (c .if1 .left)
+
+pub one-more-spec : {M : Type 1} → statement M
+one-more-spec =
+    tie.close (tie.spec
+    (λ c. search needs)
+    (λ c. search needs)
+    (λ c. omega (arith, c .before .before .pre (c .before .before .args .k)))
+    (λ c. search needs)
+    (λ c. search needs)
+    returns
+    returns-2
+    returns-3)
