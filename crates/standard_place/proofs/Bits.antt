@@ -1,0 +1,63 @@
+-- Sums that fit, and the first bit as the map has it. Assumes nothing.
+use mathlib.Core.Path.{_≡_, refl, sym, ap, _∙_}
+use mathlib.Core.Bool.{true}
+use mathlib.Core.List.{List}
+use Prim.Native.Nat.{ℕ, _+_, _-_, _*_, _≤_, _<_}
+use native.Mathlib.Nat.{mul-le-mul}
+use native.Mathlib.Omega.{arith}
+use lib.Dec.{T}
+use lib.ListN.{length, getD}
+use Rattle.cell_map.specs.Map.{Map, placeOf, columnAt, setOf as mapSetOf, entryOf as linearEntry, startOf}
+use Rattle.cell_map.specs.Fits.{covers}
+use Rattle.cell_map.proofs.Entries.{found, covers-end}
+use Rattle.bytes_at.specs.Number.{uintOf}
+use Rattle.row_index.specs.declared.Entry.{Entry}
+use Rattle.row_index.specs.Numbers.{numberIn, numbersAt, firstRow}
+use Rattle.row_index.specs.Search.{searchOf}
+use Rattle.row_index.proofs.Numbers.{numbers-length, number-at, first-row-is}
+use Rattle.row_index.proofs.Halving.{search-entry}
+use Rattle.standard_text.specs.declared.Set.{Set}
+use Rattle.standard_rules.specs.Rules.{setOf}
+use Rattle.standard_place.specs.Bit.{entryOf, bitOf}
+
+-- ---- no sum of a first bit wraps
+pub product : {a b : ℕ} (m n : ℕ) → a ≤ m → b ≤ n → a * b ≤ m * n
+product m n h k = mul-le-mul h k
+
+-- the calls' results are the definition's numbers
+pub bit-by : (text : List ℕ) (s : Set) (size offset bits row : ℕ) {e : Entry} {b r : ℕ}
+    → e ≡ searchOf (numbersAt true 4 text (s .lasts) (s .entries)) row
+    → b ≡ uintOf true 4 text (s .buckets + e .at * 4)
+    → r ≡ row - firstRow true 4 text (s .lasts) (e .at)
+    → 8 * (512 + b * size + offset) + r * bits ≡ bitOf text s size offset bits row
+unfolding bitOf
+bit-by text s size offset bits row p q v = rw (q, v, p)
+
+-- ---- in a set whose last rows cover the rows
+module _ (text : List ℕ) (s : Set) (rows row : ℕ) (v : T (covers rows (s .per) 0 (numbersAt true 4 text (s .lasts) (s .entries)))) (h : row < rows) where
+  abbrev lasts : List ℕ
+  lasts = numbersAt true 4 text (s .lasts) (s .entries)
+
+  same-entry : entryOf text s row ≡ linearEntry lasts row
+  same-entry = search-entry rows (s .per) lasts row v h
+
+  known : linearEntry lasts row < s .entries
+  known =
+      let e : startOf lasts (length lasts) ≡ rows = covers-end rows (s .per) 0 lasts v in
+      omega (arith, found lasts row (omega arith) .known, numbers-length true 4 text (s .lasts) (s .entries))
+
+  pub some-entry : 0 < s .entries
+  some-entry = omega (arith, known)
+
+  pub entry-known : entryOf text s row < s .entries
+  entry-known = omega (arith, same-entry, known)
+
+  -- the first bit that the halving rule gives is the map's
+  pub bit-is : (m : Map) (c : ℕ) → mapSetOf m c ≡ setOf text s → bitOf text s (m .size) (columnAt m c .offset) (columnAt m c .bits) row ≡ placeOf m row c .first
+  unfolding bitOf
+  bit-is m c e =
+      let b : numberIn true 4 text (s .buckets) (linearEntry lasts row) ≡ getD (numbersAt true 4 text (s .buckets) (s .entries)) (linearEntry lasts row) 0
+      = sym (number-at true 4 text (s .buckets) (s .entries) (linearEntry lasts row) known) in
+      let r : firstRow true 4 text (s .lasts) (linearEntry lasts row) ≡ startOf lasts (linearEntry lasts row)
+      = first-row-is true 4 text (s .lasts) (s .entries) (linearEntry lasts row) (omega (arith, known)) in
+      rw (e, same-entry, b, r)
