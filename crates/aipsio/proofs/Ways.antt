@@ -129,11 +129,11 @@ module _ (s : List ℕ) (c : Cursor) where
       unfolding nameAt
       name-kept h = via _ q (via _ refl (via _ refl (sym (judged-keeps (r .next) (c .at) _ 2 .stays h))))
 
-      module _ (h : Clean (r .next)) {found : List ℕ} (f : found ≡ take (r .len) (drop (r .start) s)) {ok : Bool} (t : ok ≡ sameBytes found expected) where
+      module _ (h : Clean (r .next)) {ok : Bool} (t : ok ≡ sameBytes (take (r .len) (drop (r .start) s)) expected) where
         pub name-on : ok ≡ true → r .next ≡ nameAt s c expected
         unfolding nameAt
-        name-on e = via _ q (via _ f (via _ t (judge-on (r .next) h (c .at) ok 2 e)))
+        name-on e = via _ q (via _ refl (via _ t (judge-on (r .next) h (c .at) ok 2 e)))
 
         pub name-out : {d : Cursor} → ok ≡ false → d ≡ refusedAt (r .next) (c .at) 2 → d ≡ nameAt s c expected
         unfolding nameAt
-        name-out e p = via _ q (via _ f (via _ t (p ∙ judge-refused (r .next) h (c .at) ok 2 e)))
+        name-out e p = via _ q (via _ refl (via _ t (p ∙ judge-refused (r .next) h (c .at) ok 2 e)))

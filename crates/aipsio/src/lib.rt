@@ -3,6 +3,7 @@
 ghost use mathlib.Core.Path.{_≡_};
 ghost use Prim.Native.Nat.{_<_, _≤_};
 ghost use Rattle.bytes_at.specs.Number.{bytesOf};
+ghost use Rattle.bytes_at.specs.Bytes.{joined, Joins};
 ghost use Rattle.aipsio.specs.Field.{
   refusedAt,
   leftIn,
@@ -321,7 +322,23 @@ pub fn name(s: &[u8], c: Cursor, expected: &[u8]) -> Cursor
     if refused != 0 {
         return found.next;
     }
-    if bytes_at::same(bytes_at::part(s, found.start, found.len), expected) {
+    if bytes_at::is_at(s, found.start, found.len, expected) {
+        return found.next;
+    }
+    refuse(found.next, c.at, 2)
+}
+
+// The same of a name that the source has, of n bytes, whose first eight and last eight are given.
+pub fn text_name(s: &[u8], c: Cursor, n: usize, first: &[u8; 8], last: &[u8; 8]) -> Cursor
+    requires { ⌜ Joins n (now first) (now last) ⌝ }
+    ensures { λ r. ⌜ r ≡ nameAt (now (s .entry)) c (joined n (now (first .entry)) (now (last .entry))) ⌝ }
+{
+    let found = any_string(s, c);
+    let refused = found.next.refused;
+    if refused != 0 {
+        return found.next;
+    }
+    if bytes_at::is_text(s, found.start, found.len, n, first, last) {
         return found.next;
     }
     refuse(found.next, c.at, 2)
@@ -360,6 +377,26 @@ pub fn open(s: &[u8], c: Cursor, expected: &[u8], low: usize, high: usize) -> Va
 {
     let len = uint(s, c);
     let d = name(s, len.next, expected);
+    let v = version(s, d, low, high);
+    let e = enter(v.next, c, len.value);
+    settle(v.value, e)
+}
+
+// The same of an object whose name the source has, of n bytes, whose first eight and last eight are given.
+pub fn open_text(
+    s: &[u8],
+    c: Cursor,
+    n: usize,
+    first: &[u8; 8],
+    last: &[u8; 8],
+    low: usize,
+    high: usize,
+) -> Value
+    requires { ⌜ Joins n (now first) (now last) ⌝ }
+    ensures { λ r. ⌜ r ≡ opened (now (s .entry)) c (joined n (now (first .entry)) (now (last .entry))) low high ⌝ }
+{
+    let len = uint(s, c);
+    let d = text_name(s, len.next, n, first, last);
     let v = version(s, d, low, high);
     let e = enter(v.next, c, len.value);
     settle(v.value, e)
@@ -411,7 +448,7 @@ pub fn pass(c: Cursor, outer: Cursor) -> Cursor
 pub fn record(s: &[u8], c: Cursor) -> Cursor
     ensures { λ r. ⌜ r ≡ recordAt (now (s .entry)) c ⌝ }
 {
-    let o = open(s, c, b"TableRecord", 1, 1);
+    let o = open_text(s, c, 11, b"TableRec", b"leRecord", 1, 1);
     pass(o.next, c)
 }
 
@@ -431,7 +468,7 @@ pub fn block(s: &[u8], c: Cursor, n: usize, size: usize) -> Value
 pub fn map(s: &[u8], c: Cursor) -> Cursor
     ensures { λ r. ⌜ r ≡ mapAt (now (s .entry)) c ⌝ }
 {
-    let o = open(s, c, b"SimpleOrderedMap", 1, 1);
+    let o = open_text(s, c, 16, b"SimpleOr", b"deredMap", 1, 1);
     let default = uint(s, o.next);
     let n = uint(s, default.next);
     let increment = uint(s, n.next);
@@ -453,7 +490,7 @@ fn axis_width(version: usize) -> Width
 pub fn iposition(s: &[u8], c: Cursor) -> Cursor
     ensures { λ r. ⌜ r ≡ ipositionAt (now (s .entry)) c ⌝ }
 {
-    let o = open(s, c, b"IPosition", 1, 2);
+    let o = open_text(s, c, 9, b"IPositio", b"Position", 1, 2);
     let n = uint(s, o.next);
     let width = axis_width(o.value);
     let e = skip_each(n.next, n.value, width.bytes());
@@ -492,7 +529,7 @@ pub fn shape(s: &[u8], c: Cursor, dimensions: usize) -> Value
     ensures { λ r. ⌜ r ≡ shapeAt (now (s .entry)) c dimensions ⌝ }
     ensures bounded { λ r. ⌜ r .value ≤ 1048576 ⌝ }
 {
-    let o = open(s, c, b"IPosition", 1, 2);
+    let o = open_text(s, c, 9, b"IPositio", b"Position", 1, 2);
     let n = number(s, o.next, Width::Four, 1, 8);
     let k = judge(n.next, o.next.at, n.value == dimensions, 5);
     let product = axes(s, k, n.value, axis_width(o.value));

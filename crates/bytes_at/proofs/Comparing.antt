@@ -1,12 +1,13 @@
 -- Laws of `sameBytes`, and a loop that compares two lists from the front.
 -- Assumes nothing.
 use mathlib.Core.Path.{_≡_, refl, ap}
-use mathlib.Core.List.{List, [], _∷_}
-use mathlib.Core.Bool.{true, false, _&&_}
+use mathlib.Core.List.{List, [], _∷_, _++_}
+use mathlib.Core.Bool.{Bool, true, false, _&&_}
 use Prim.Native.Nat.{ℕ, _+_, _<_, _≤_}
 use native.Mathlib.Decide.{ℕ-discrete}
 use native.Mathlib.Numerals.{add-one}
-use lib.ListN.{length, getD, drop, drop-of-length-le}
+use native.Mathlib.Nat.{zero-add, suc-add}
+use lib.ListN.{length, getD, take, drop, drop-of-length-le}
 use lib.Seq.{drop-cons}
 use lib.Dec.{eqb}
 use borrow.Author.Tests.{eq-eqb, ne-eqb}
@@ -36,3 +37,14 @@ module _ (a b : List ℕ) (i : ℕ) where
   pub at-the-end : length a ≤ i → length b ≤ i → sameBytes (drop i a) (drop i b) ≡ true
   unfolding sameBytes
   at-the-end p q = rw (drop-of-length-le a p, drop-of-length-le b q)
+
+-- a text in two parts
+both : (a b c : Bool) → a && (b && c) ≡ (a && b) && c
+both true b c = refl
+both false b c = refl
+
+pub same-split : (f g l : List ℕ) (k : ℕ) → sameBytes (take (length f + k) l) (f ++ g) ≡ sameBytes (take (length f) l) f && sameBytes (take k (drop (length f) l)) g
+unfolding sameBytes
+same-split [] g l k = rw zero-add
+same-split (x ∷ f) g [] k = rw suc-add
+same-split (x ∷ f) g (y ∷ l) k = rw (suc-add, same-split f g l k) (both (eqb y x) (sameBytes (take (length f) l) f) (sameBytes (take k (drop (length f) l)) g))

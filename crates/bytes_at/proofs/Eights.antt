@@ -1,18 +1,18 @@
 -- A loop that compares two lists of bytes of one length, eight at a time: their first i are the same.
 -- Assumes nothing.
 use mathlib.Core.Path.{_≡_, refl, sym, ap, _∙_}
-use mathlib.Core.List.{List, [], _∷_}
+use mathlib.Core.List.{List, [], _∷_, _++_}
 use mathlib.Core.Bool.{true, false}
-use Prim.Native.Nat.{ℕ, zero, suc, _+_, _*_, _≤_}
+use Prim.Native.Nat.{ℕ, zero, suc, _+_, _-_, _*_, _≤_}
 use native.Mathlib.Decide.{ℕ-discrete}
 use native.Mathlib.Omega.{arith}
 use lib.Dec.{eqb}
-use lib.ListN.{length, take, drop, take-append-drop, length-drop}
-use lib.Seq.{take-all, take-take, take-add, getD-drop}
+use lib.ListN.{length, take, drop, take-append-drop, length-drop, length-append}
+use lib.Seq.{take-all, take-take, take-add, getD-drop, length-take-le, drop-at}
 use borrow.Author.Tests.{eq-eqb, ne-eqb}
 use Rattle.bytes_at.specs.Number.{bigFrom, uintOf}
-use Rattle.bytes_at.specs.Bytes.{sameBytes}
-use Rattle.bytes_at.proofs.Numbers.{Bytes}
+use Rattle.bytes_at.specs.Bytes.{sameBytes, joined, Joins}
+use Rattle.bytes_at.proofs.Numbers.{Bytes, big-take, joined-bytes}
 use Rattle.bytes_at.proofs.Comparing.{same-self, unlike}
 
 -- bytes that give one number are the same
@@ -65,3 +65,30 @@ module _ (a b : List ℕ) (f : Bytes a) (g : Bytes b) {x y : ℕ} (i : ℕ) (p :
 
     pub alike-last : eqb x y ≡ sameBytes a b
     alike-last = elim (ℕ-discrete x y) [ yes e ↦ rw (eq-eqb x y e, ← (whole e)) (sym (same-self a)) | no n ↦ rw (ne-eqb x y n) (alike-not n) ]
+
+-- a text whose first eight and last eight bytes are given
+head-length : {n : ℕ} {first last : List ℕ} → Joins n first last → length (take (n - 8) first) ≡ n - 8
+head-length {n} {first} j = length-take-le (n - 8) first (omega arith)
+
+pub text-length : {n : ℕ} {first last : List ℕ} → Joins n first last → length (joined n first last) ≡ n
+text-length j = rw (length-append, head-length j) (omega arith)
+
+module _ (a : List ℕ) (n : ℕ) (first last : List ℕ) (f : Bytes a) (g : Bytes first) (h : Bytes last) (j : Joins n first last) where
+  module _ {x y : ℕ} (u : x ≡ uintOf true 8 a 0) (v : y ≡ uintOf true 8 first 0) where
+    first-of : y ≡ uintOf true 8 (joined n first last) 0
+    unfolding uintOf
+    first-of = v ∙ ap (bigFrom 0 8) (sym (j .agree)) ∙ big-take 0 8 8 (joined n first last) (omega arith)
+
+    pub text-not : (x ≡ y → ⊥) → false ≡ sameBytes a (joined n first last)
+    text-not = alike-not a (joined n first last) f (joined-bytes (n - 8) first last g h) 0 u first-of
+
+    module _ {z w : ℕ} (k : length a ≡ n) (e : x ≡ y) (r : z ≡ uintOf true 8 a (n - 8)) (t : w ≡ uintOf true 8 last 0) where
+      last-of : w ≡ uintOf true 8 (joined n first last) (n - 8)
+      unfolding uintOf
+      last-of = t ∙ ap (bigFrom 0 8) (sym (drop-at (take (n - 8) first) last (n - 8) (head-length j)))
+
+      pub text-last : eqb z w ≡ sameBytes a (joined n first last)
+      text-last =
+          alike-last a (joined n first last) f (joined-bytes (n - 8) first last g h) (n - 8) r last-of
+          (alike-more a (joined n first last) f (joined-bytes (n - 8) first last g h) 0 u first-of (alike-none a (joined n first last) (k ∙ sym (text-length j))) (omega arith) e)
+          (omega arith) (omega arith)

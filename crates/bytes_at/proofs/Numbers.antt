@@ -1,12 +1,12 @@
 -- The number in n bytes, byte by byte: one law over the width, for each byte order. Assumes nothing.
 use mathlib.Core.Path.{_≡_, refl, sym, ap, _∙_}
-use mathlib.Core.List.{List, [], _∷_}
+use mathlib.Core.List.{List, [], _∷_, _++_}
 use mathlib.Core.Bool.{Bool, true, false}
 use Prim.Native.Nat.{ℕ, zero, suc, _+_, _*_, _≤_, _<_}
 use native.Mathlib.Decide.{decLe}
 use native.Mathlib.Omega.{arith}
-use lib.ListN.{length, getD, drop, length-drop}
-use lib.Seq.{drop-cons}
+use lib.ListN.{length, getD, take, drop, length-drop}
+use lib.Seq.{drop-cons, drop-drop, getD-drop}
 use mir.Val.{Fits}
 use mir.Syntax.{w8}
 use Rattle.bytes_at.specs.Number.{bigFrom, littleFrom, uintOf}
@@ -112,3 +112,40 @@ module _ (s : List ℕ) (at : ℕ) (h : Bytes s) where
 
   pub a-word : (big : Bool) {r : ℕ} → r ≡ uintOf big 4 s at → (r ≡ uintOf big 4 s at) × (r < 4294967296)
   a-word big e = (e, omega (arith, word-below big))
+
+-- bytes of a part, and of two lists joined
+bytes-take : (n : ℕ) (l : List ℕ) → Bytes l → Bytes (take n l)
+bytes-take zero l f i = omega arith
+bytes-take (suc n) [] f i = f i
+bytes-take (suc n) (x ∷ l) f zero = f 0
+bytes-take (suc n) (x ∷ l) f (suc i) = bytes-take n l (λ j. f (suc j)) i
+
+pub part-bytes : (s : List ℕ) (start n : ℕ) → Bytes s → Bytes (take n (drop start s))
+part-bytes s start n f = bytes-take n (drop start s) (λ i. rw getD-drop (f (start + i)))
+
+pub joined-bytes : (n : ℕ) (l m : List ℕ) → Bytes l → Bytes m → Bytes (take n l ++ m)
+joined-bytes zero l m f g i = g i
+joined-bytes (suc n) [] m f g i = g i
+joined-bytes (suc n) (x ∷ l) m f g zero = f 0
+joined-bytes (suc n) (x ∷ l) m f g (suc i) = joined-bytes n l m (λ j. f (suc j)) g i
+
+-- a number that lies in a part
+pub big-take : (a k n : ℕ) (l : List ℕ) → k ≤ n → bigFrom a k (take n l) ≡ bigFrom a k l
+unfolding bigFrom
+big-take a zero n l h = refl
+big-take a (suc k) zero l h = absurd (omega arith)
+big-take a (suc k) (suc n) [] h = refl
+big-take a (suc k) (suc n) (x ∷ l) h = big-take (a * 256 + x) k n l (omega arith)
+
+big-part : (k i n : ℕ) (l : List ℕ) → i + k ≤ n → bigFrom 0 k (drop i (take n l)) ≡ bigFrom 0 k (drop i l)
+big-part k zero n l h = big-take 0 k n l (omega arith)
+big-part k (suc i) zero l h = absurd (omega arith)
+big-part k (suc i) (suc n) [] h = refl
+big-part k (suc i) (suc n) (x ∷ l) h = big-part k i n l (omega arith)
+
+pub part-number : (s : List ℕ) (start n k i : ℕ) {x : ℕ} → x ≡ uintOf true k s (start + i) → i + k ≤ n → x ≡ uintOf true k (take n (drop start s)) i
+unfolding uintOf
+part-number s start n k i e h = e ∙ ap (bigFrom 0 k) (sym (drop-drop i start s)) ∙ sym (big-part k i n (drop start s) h)
+
+pub part-first : (s : List ℕ) (start n k : ℕ) {x : ℕ} → x ≡ uintOf true k s start → k ≤ n → x ≡ uintOf true k (take n (drop start s)) 0
+part-first s start n k e h = let z : start ≡ start + 0 = omega arith in part-number s start n k 0 (e ∙ ap (uintOf true k s) z) (omega arith)

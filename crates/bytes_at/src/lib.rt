@@ -6,7 +6,7 @@ ghost use lib.Dec.{leb};
 ghost use lib.ListN.{length, take, drop, replicate};
 ghost use lib.Seq.{paste};
 ghost use Rattle.bytes_at.specs.Number.{uintOf, bytesOf};
-ghost use Rattle.bytes_at.specs.Bytes.{sameBytes};
+ghost use Rattle.bytes_at.specs.Bytes.{sameBytes, joined, Joins};
 
 // How many bytes a number has.
 pub enum Width {
@@ -69,6 +69,7 @@ pub fn short(s: &[u8], at: usize, big: bool) -> usize
 fn big_word(s: &[u8], at: usize) -> usize
     requires { ⌜ at + 4 ≤ length (now s) ⌝ }
     ensures { λ r. ⌜ r ≡ uintOf true 4 (now (s .entry)) at ⌝ }
+    ensures bounded { λ r. ⌜ r < 4294967296 ⌝ }
 {
     let a = wide(s[at]);
     let b = wide(s[at + 1]);
@@ -87,6 +88,16 @@ fn little_word(s: &[u8], at: usize) -> usize
     let c = wide(s[at + 2]);
     let d = wide(s[at + 3]);
     d * 16777216 + c * 65536 + b * 256 + a
+}
+
+// The number in eight bytes that are there, most significant byte first.
+fn big_long(s: &[u8], at: usize) -> usize
+    requires { ⌜ at + 8 ≤ length (now s) ⌝ }
+    ensures { λ r. ⌜ r ≡ uintOf true 8 (now (s .entry)) at ⌝ }
+{
+    let a = big_word(s, at);
+    let b = big_word(s, at + 4);
+    a * 4294967296 + b
 }
 
 // The number in four bytes; 0 where the bytes end before. An Int of -1 is 4,294,967,295.
@@ -153,14 +164,26 @@ pub fn within(x: usize, low: usize, high: usize) -> bool
     low <= x && x <= high
 }
 
-// Whether two slices of one length hold the same bytes.
-fn same_few(a: &[u8], b: &[u8]) -> bool
-    requires { ⌜ length (now a) ≡ length (now b) ⌝ }
-    ensures { λ r. ⌜ r ≡ sameBytes (now (a .entry)) (now (b .entry)) ⌝ }
+// How many of the len bytes from start there are.
+fn part_len(s: &[u8], start: usize, len: usize) -> usize
+    ensures { λ r. ⌜ r ≡ length (take len (drop start (now (s .entry)))) ⌝ }
+    ensures bounded { λ r. ⌜ r ≤ length (now (s .entry)) - start ⌝ }
+{
+    let left = minus(s.len(), start);
+    if left < len {
+        return left;
+    }
+    len
+}
+
+// Whether the bytes given stand at a place where there are as many, one byte at a time.
+fn few_at(s: &[u8], start: usize, expected: &[u8]) -> bool
+    requires { ⌜ length (now expected) ≤ length (now s) - start ⌝ }
+    ensures { λ r. ⌜ r ≡ sameBytes (take (length (now (expected .entry))) (drop start (now (s .entry)))) (now (expected .entry)) ⌝ }
 {
     let mut i = 0;
-    while i < a.len() {
-        if a[i] != b[i] {
+    while i < expected.len() {
+        if s[start + i] != expected[i] {
             return false;
         }
         i += 1;
@@ -169,32 +192,71 @@ fn same_few(a: &[u8], b: &[u8]) -> bool
 }
 
 // The same of eight bytes or more, eight at a time. The last eight may overlap those before them.
-fn same_many(a: &[u8], b: &[u8]) -> bool
-    requires { ⌜ (length (now a) ≡ length (now b)) × (8 ≤ length (now a)) ⌝ }
-    ensures { λ r. ⌜ r ≡ sameBytes (now (a .entry)) (now (b .entry)) ⌝ }
+fn many_at(s: &[u8], start: usize, expected: &[u8]) -> bool
+    requires { ⌜ (8 ≤ length (now expected)) × (length (now expected) ≤ length (now s) - start) ⌝ }
+    ensures { λ r. ⌜ r ≡ sameBytes (take (length (now (expected .entry))) (drop start (now (s .entry)))) (now (expected .entry)) ⌝ }
 {
-    let last = a.len() - 8;
+    let last = expected.len() - 8;
     let mut i = 0;
     while i < last {
-        if long(a, i, true) != long(b, i, true) {
+        if big_long(s, start + i) != big_long(expected, i) {
             return false;
         }
         i += 8;
     }
-    long(a, last, true) == long(b, last, true)
+    big_long(s, start + last) == big_long(expected, last)
+}
+
+// Whether the len bytes from start, or as many of them as there are, are the bytes given.
+pub fn is_at(s: &[u8], start: usize, len: usize, expected: &[u8]) -> bool
+    ensures { λ r. ⌜ r ≡ sameBytes (take len (drop start (now (s .entry)))) (now (expected .entry)) ⌝ }
+{
+    let n = part_len(s, start, len);
+    if n != expected.len() {
+        return false;
+    }
+    if n < 8 {
+        return few_at(s, start, expected);
+    }
+    many_at(s, start, expected)
+}
+
+// Whether a text of n bytes, whose first eight and last eight are given, stands at a place where there are as many.
+fn text_at(s: &[u8], start: usize, n: usize, first: &[u8], last: &[u8]) -> bool
+    requires { ⌜ (Joins n (now first) (now last)) × (n ≤ length (now s) - start) ⌝ }
+    ensures { λ r. ⌜ r ≡ sameBytes (take n (drop start (now (s .entry)))) (joined n (now (first .entry)) (now (last .entry))) ⌝ }
+{
+    let tail = n - 8;
+    if big_long(s, start) != big_long(first, 0) {
+        return false;
+    }
+    big_long(s, start + tail) == big_long(last, 0)
+}
+
+// Whether the len bytes from start, or as many of them as there are, are a text of n bytes whose first eight and last eight
+// are given. Quicker than `is_at` for a text that the source has: there is no slice to make.
+pub fn is_text(
+    s: &[u8],
+    start: usize,
+    len: usize,
+    n: usize,
+    first: &[u8; 8],
+    last: &[u8; 8],
+) -> bool
+    requires { ⌜ Joins n (now first) (now last) ⌝ }
+    ensures { λ r. ⌜ r ≡ sameBytes (take len (drop start (now (s .entry)))) (joined n (now (first .entry)) (now (last .entry))) ⌝ }
+{
+    if part_len(s, start, len) != n {
+        return false;
+    }
+    text_at(s, start, n, first, last)
 }
 
 // Whether two slices hold the same bytes.
 pub fn same(a: &[u8], b: &[u8]) -> bool
     ensures { λ r. ⌜ r ≡ sameBytes (now (a .entry)) (now (b .entry)) ⌝ }
 {
-    if a.len() != b.len() {
-        return false;
-    }
-    if a.len() < 8 {
-        return same_few(a, b);
-    }
-    same_many(a, b)
+    is_at(a, 0, a.len(), b)
 }
 
 // As many of the len bytes from start as there are.

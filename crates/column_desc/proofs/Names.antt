@@ -9,10 +9,6 @@ use Rattle.bytes_at.specs.First.{firstFrom, firstBelow}
 use Rattle.column_desc.specs.declared.Column.{Column}
 use Rattle.column_desc.specs.ColumnDesc.{blank, isNamed, firstNamed, firstPart}
 
--- what a comparison with a part of the bytes tells
-pub same-part : {r b : Bool} {p q : List ℕ} (name : List ℕ) → r ≡ sameBytes p name → p ≡ q → r ≡ b → sameBytes q name ≡ b
-same-part name e p t = sym (e ∙ ap (λ (x : List ℕ). sameBytes x name) p) ∙ t
-
 -- a store into a list, seen through a function of its elements
 pub map-set : {A B : Type 0} (f : A → B) (l : List A) (i : ℕ) (x : A) → map f (set l i x) ≡ set (map f l) i (f x)
 map-set f [] i x = refl

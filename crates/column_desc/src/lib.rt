@@ -36,11 +36,12 @@ pub struct Column {
     pub bits: u32,
 }
 
-// Columns in stored order, which of them hold arrays, and the cursor past them.
+// Columns in stored order, which of them hold arrays, and the cursor past them. With the cursor between the two lists each is
+// copied by itself, and a copy of a copy is then left out.
 pub struct Columns {
     pub columns: [Column; 64],
-    pub arrays: [bool; 64],
     pub next: Cursor,
+    pub arrays: [bool; 64],
 }
 
 // A column's type, and the cursor past the string that says it.
@@ -287,7 +288,7 @@ fn first_named(s: &[u8], starts: &[usize; 64], lens: &[usize; 64], n: usize, nam
 {
     let mut i = 0;
     while i < n {
-        if bytes_at::same(bytes_at::part(s, starts[i], lens[i]), name) {
+        if bytes_at::is_at(s, starts[i], lens[i], name) {
             return i;
         }
         i += 1;

@@ -2,7 +2,7 @@
 ghost use mathlib.Core.Path.{_≡_};
 ghost use Prim.Native.Nat.{ℕ, _+_, _≤_, _<_};
 ghost use mathlib.Core.Bool.{false};
-ghost use lib.ListN.{getD, set};
+ghost use lib.ListN.{length, getD, set};
 ghost use Rattle.column_set.specs.ColumnSet.{
   kindOf,
   isOurs,
@@ -58,9 +58,9 @@ pub struct Head {
 // Managers in stored order, their sequence numbers, which of them are of the two kinds, and the cursor past them.
 pub struct Managers {
     pub managers: [Manager; 16],
+    pub next: Cursor,
     pub numbers: [usize; 16],
     pub ours: [bool; 16],
-    pub next: Cursor,
 }
 
 // A column's sequence number, whose field begins at `from`.
@@ -80,8 +80,8 @@ pub struct Owner {
 // The owners of the columns in stored order, how many columns each manager has, and the cursor past ColumnInfo.
 pub struct Owners {
     pub owners: [Owner; 64],
-    pub counts: [usize; 16],
     pub next: Cursor,
+    pub counts: [usize; 16],
 }
 
 // Where each manager's DMInfo begins, past its length, and the cursor past all of them.
@@ -93,10 +93,10 @@ pub struct Infos {
 pub fn kind_of(name: &[u8]) -> Kind
     ensures { λ r. ⌜ r ≡ kindOf (now (name .entry)) ⌝ }
 {
-    if bytes_at::same(name, b"StandardStMan") {
+    if bytes_at::is_text(name, 0, name.len(), 13, b"Standard", b"ardStMan") {
         return Kind::Standard;
     }
-    if bytes_at::same(name, b"IncrementalStMan") {
+    if bytes_at::is_text(name, 0, name.len(), 16, b"Incremen", b"talStMan") {
         return Kind::Incremental;
     }
     Kind::Other
@@ -262,15 +262,13 @@ fn flag_at(list: &[bool; 16], k: usize) -> bool
 }
 
 // One more at a place of a list of counts.
-fn one_more(counts: [usize; 16], k: usize) -> [usize; 16]
-    requires { ⌜ ((j : ℕ) → getD counts j 0 ≤ 64) ⌝ }
-    ensures { λ r. ⌜ r ≡ set counts k (getD counts k 0 + 1) ⌝ }
+fn one_more(counts: &mut [usize; 16], k: usize)
+    requires { ⌜ (length (now counts) ≡ 16) × ((j : ℕ) → getD (now counts) j 0 ≤ 64) ⌝ }
+    ensures { λ _. ⌜ now (counts .exit) ≡ set (now (counts .entry)) k (getD (now (counts .entry)) k 0 + 1) ⌝ }
 {
-    let mut list = counts;
     if k < 16 {
-        list[k] = list[k] + 1;
+        counts[k] = counts[k] + 1;
     }
-    list
 }
 
 fn no_owner() -> Owner
@@ -312,7 +310,7 @@ pub fn read_owners(
             manager: k as u32,
             rank: rank as u32,
         };
-        counts = one_more(counts, k);
+        one_more(&mut counts, k);
         next = skip_own_shape(s, d, array);
         i += 1;
     }

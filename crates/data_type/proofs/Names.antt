@@ -1,20 +1,39 @@
 -- Names of types, bare or filled with spaces to eight characters.
 -- Assumes nothing.
-use mathlib.Core.Path.{_≡_, refl, sym, _∙_}
+use mathlib.Core.Path.{_≡_, refl, sym, ap, _∙_}
 use mathlib.Core.Bool.{Bool, true, false, _&&_, _||_, false≢true}
-use mathlib.Core.List.{List, [], _∷_}
+use mathlib.Core.List.{List, [], _∷_, _++_}
 use mathlib.Core.Logic.{_⊎_, inl, inr}
-use Prim.Native.Nat.{ℕ, _≤_}
+use Prim.Native.Nat.{ℕ, _+_, _≤_, _<_}
+use native.Mathlib.Omega.{arith}
 use lib.Dec.{eqb}
-use lib.ListN.{length, take}
-use lib.Seq.{take-take, take-append-seam}
+use lib.ListN.{length, getD, take, drop}
+use lib.Seq.{take-take, take-append-seam, take-all, drop-cons}
 use borrow.Author.Tests.{eqb-true}
 use Rattle.bytes_at.specs.Bytes.{sameBytes}
+use Rattle.bytes_at.proofs.Comparing.{same-split, unequal-lengths}
 use Rattle.data_type.specs.DataTypes.{filled, isName}
 
--- how a part of the bytes compared with a text
-pub begun : (text : List ℕ) {p part : List ℕ} {r b : Bool} → part ≡ p → r ≡ sameBytes part text → r ≡ b → sameBytes p text ≡ b
-begun text q e h = rw (← q) (sym e ∙ h)
+-- fewer bytes than the text has
+pub too-short : (text l : List ℕ) → length l < length text → false ≡ sameBytes (take (length text) l) text
+too-short text l h = sym (unequal-lengths (take (length text) l) text (λ q. omega (arith, ap length (take-all (length text) l (omega arith)))))
+
+-- a text of one byte
+alone : (b : Bool) → b ≡ b && true
+alone true = refl
+alone false = refl
+
+pub one-byte : (x : ℕ) (l : List ℕ) (i : ℕ) → i < length l → eqb (getD l i 0) x ≡ sameBytes (take 1 (drop i l)) (x ∷ [])
+unfolding sameBytes
+one-byte x l i h = rw (drop-cons l i 0 h) (alone (eqb (getD l i 0) x))
+
+-- a text compared in two parts
+module _ (f g l : List ℕ) (k : ℕ) {a : Bool} (p : a ≡ sameBytes (take (length f) l) f) where
+  pub split-on : {b : Bool} → a ≡ true → b ≡ sameBytes (take k (drop (length f) l)) g → b ≡ sameBytes (take (length f + k) l) (f ++ g)
+  split-on h q = q ∙ rw (same-split f g l k, ← p, h)
+
+  pub split-out : a ≡ false → false ≡ sameBytes (take (length f + k) l) (f ++ g)
+  split-out h = rw (same-split f g l k, ← p, h)
 
 module _ (s name : List ℕ) {whole : List ℕ} {len : ℕ} {r : Bool} (w : whole ≡ filled name) (l : (len ≡ length name) × (len ≤ 8)) (e : r ≡ sameBytes s (take len whole)) where
   -- a filled name begins with the bare one

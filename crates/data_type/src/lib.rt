@@ -2,7 +2,8 @@
 ghost use mathlib.Core.Path.{_≡_};
 ghost use mathlib.Core.Bool.{true};
 ghost use Prim.Native.Nat.{ℕ, _≤_, _<_};
-ghost use lib.ListN.{length};
+ghost use lib.ListN.{length, take};
+ghost use Rattle.bytes_at.specs.Bytes.{bytes, sameBytes};
 ghost use Rattle.data_type.specs.DataTypes.{
   typeAt,
   nameOf,
@@ -250,14 +251,34 @@ fn column_type_of(array: bool, k: Known) -> ColumnType
     }
 }
 
+// Whether the bytes begin with ScalarColumnDesc<.
+fn is_scalar(s: &[u8]) -> bool
+    ensures { λ r. ⌜ r ≡ sameBytes (take 17 (now (s .entry))) (bytes "ScalarColumnDesc<") ⌝ }
+{
+    if s.len() < 17 {
+        return false;
+    }
+    if bytes_at::is_text(s, 0, 16, 16, b"ScalarCo", b"lumnDesc") {
+        return s[16] == b'<';
+    }
+    false
+}
+
+// Whether the bytes begin with ArrayColumnDesc<.
+fn is_array(s: &[u8]) -> bool
+    ensures { λ r. ⌜ r ≡ sameBytes (take 16 (now (s .entry))) (bytes "ArrayColumnDesc<") ⌝ }
+{
+    bytes_at::is_text(s, 0, 16, 16, b"ArrayCol", b"umnDesc<")
+}
+
 // What a column type string says: ScalarColumnDesc<T or ArrayColumnDesc<T.
 pub fn column_type(s: &[u8]) -> ColumnType
     ensures { λ r. ⌜ r ≡ columnTypeOf (now (s .entry)) ⌝ }
 {
-    if bytes_at::same(bytes_at::part(s, 0, 17), b"ScalarColumnDesc<") {
+    if is_scalar(s) {
         return column_type_of(false, DataType::from_name(bytes_at::rest(s, 17)));
     }
-    if bytes_at::same(bytes_at::part(s, 0, 16), b"ArrayColumnDesc<") {
+    if is_array(s) {
         return column_type_of(true, DataType::from_name(bytes_at::rest(s, 16)));
     }
     column_type_of(false, Known::Nothing)

@@ -45,7 +45,7 @@ fn read_head(s: &[u8], c: Cursor) -> Head
 {
     let rows = aipsio::number(s, c, Width::Four, 0, 2147483647);
     let endian = aipsio::code(s, rows.next, 0, 1);
-    let kind = aipsio::name(s, endian.next, b"PlainTable");
+    let kind = aipsio::text_name(s, endian.next, 10, b"PlainTab", b"ainTable");
     Head {
         rows: rows.value,
         big: endian.value == 1,
@@ -105,7 +105,7 @@ pub fn describe(s: &[u8]) -> Description
     let m = aipsio::mark(s, c);
     let t = aipsio::open(s, m, b"Table", 2, 2);
     let head = read_head(s, t.next);
-    let o = aipsio::open(s, head.next, b"TableDesc", 2, 2);
+    let o = aipsio::open_text(s, head.next, 9, b"TableDes", b"ableDesc", 2, 2);
     let n = read_desc_head(s, o.next);
     let cs = column_desc::read_columns(s, n.next, n.count);
     let e = aipsio::close(cs.next, head.next);
@@ -153,7 +153,7 @@ pub fn column_by_name(s: &[u8], name: &[u8]) -> Position
     let mut i = 0;
     while i < n {
         let c = columns[i];
-        if bytes_at::same(bytes_at::part(s, c.start, c.len), name) {
+        if bytes_at::is_at(s, c.start, c.len, name) {
             return Position::At(i);
         }
         i += 1;

@@ -9,7 +9,7 @@ use Rattle.aipsio.proofs.iposition.Tie as tie
 returns : tie.Need-returns
 unfolding ipositionAt
 returns c =
-    via _ (c .before .before .before .before .before .«open» .ensures) (
+    via _ (c .before .before .before .before .before .open-text .ensures) (
     via _ (c .before .before .before .before .uint .ensures .0) (
     via _ (c .before .before .before .axis-width .ensures) (
     via _ (c .before .before .bytes .ensures .0) (
@@ -17,4 +17,4 @@ returns c =
     c .close .ensures)))))
 
 pub iposition-spec : {M : Type 1} → statement M
-iposition-spec = tie.close (tie.spec (λ c. search needs) free free free free (λ c κs. bytes-some (c .before .axis-width .result) (c .bytes .ensures .0)) free returns)
+iposition-spec = tie.close (tie.spec (λ c κs. search needs) free free free (λ c κs. bytes-some (c .before .axis-width .result) (c .bytes .ensures .0)) free returns)

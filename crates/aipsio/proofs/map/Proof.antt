@@ -8,7 +8,7 @@ use Rattle.aipsio.proofs.map.Tie as tie
 returns : tie.Need-returns
 unfolding mapAt
 returns c =
-    via _ (c .before .before .before .before .before .«open» .ensures) (
+    via _ (c .before .before .before .before .before .open-text .ensures) (
     via _ (c .before .before .before .before .uint .ensures .0) (
     via _ (c .before .before .before .uint2 .ensures .0) (
     via _ (c .before .before .uint3 .ensures .0) (
@@ -16,4 +16,4 @@ returns c =
     c .close .ensures)))))
 
 pub map-spec : {M : Type 1} → statement M
-map-spec = tie.close (tie.spec (λ c. search needs) free free free free (λ c κs. search needs) free returns)
+map-spec = tie.close (tie.spec (λ c κs. search needs) free free free (λ c κs. search needs) free returns)

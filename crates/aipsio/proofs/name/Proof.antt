@@ -10,7 +10,6 @@ name-spec =
     free
     (λ c. name-kept _ _ (c .before .before .any-string .ensures .0) _ (c .before .if1 .taken))
     free
+    (λ c. name-on _ _ (c .before .before .before .before .any-string .ensures .0) _ (c .before .before .before .if1 .left) (c .before .before .is-at .ensures) (c .before .if2 .taken))
     free
-    (λ c. name-on _ _ (c .before .before .before .before .before .any-string .ensures .0) _ (c .before .before .before .before .if1 .left) (c .before .before .before .part .ensures) (c .before .before .same .ensures) (c .before .if2 .taken))
-    free
-    (λ c. name-out _ _ (c .before .before .before .before .before .any-string .ensures .0) _ (c .before .before .before .before .if1 .left) (c .before .before .before .part .ensures) (c .before .before .same .ensures) (c .before .if2 .left) (c .refuse .ensures)))
+    (λ c. name-out _ _ (c .before .before .before .before .any-string .ensures .0) _ (c .before .before .before .if1 .left) (c .before .before .is-at .ensures) (c .before .if2 .left) (c .refuse .ensures)))

@@ -8,8 +8,8 @@ use Rattle.aipsio.proofs.record.Tie as tie
 returns : tie.Need-returns
 unfolding recordAt
 returns c =
-    via _ (c .before .«open» .ensures) (
+    via _ (c .before .open-text .ensures) (
     c .pass .ensures)
 
 pub record-spec : {M : Type 1} → statement M
-record-spec = tie.close (tie.spec (λ c. search needs) free free returns)
+record-spec = tie.close (tie.spec (λ c κs. search needs) free returns)

@@ -10,7 +10,7 @@ returns : tie.Need-returns
 unfolding shapeAt
 returns c =
     at-most (shape-le _ _ _) (
-    via _ (c .before .before .before .before .before .before .before .«open» .ensures) (
+    via _ (c .before .before .before .before .before .before .before .open-text .ensures) (
     via _ (c .before .before .before .before .before .before .number .ensures .0) (
     via _ (c .before .before .before .before .judge .ensures) (
     via _ (c .before .before .before .axis-width .ensures) (
@@ -19,4 +19,4 @@ returns c =
     c .settle .ensures .0)))))))
 
 pub shape-spec : {M : Type 1} → statement M
-shape-spec = tie.close (tie.spec (λ c. search needs) free free free free free free free returns)
+shape-spec = tie.close (tie.spec (λ c κs. search needs) free free free free free free returns)

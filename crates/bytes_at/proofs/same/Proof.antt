@@ -1,14 +1,12 @@
-use mathlib.Core.Path.{sym}
+-- `bytes_at::same` meets its contract: the whole of a slice is a part of it.
+use mathlib.Core.Path.{_∙_}
+use lib.Seq.{take-length}
 use borrow.Author.Needs.{needs}
-use Rattle.bytes_at.proofs.Comparing.{unequal-lengths}
 use Rattle.bytes_at.proofs.same.Statement.{statement}
 use Rattle.bytes_at.proofs.same.Tie as tie
 
+returns : tie.Need-returns
+returns c = c .is-at .ensures ∙ rw take-length
+
 pub same-spec : {M : Type 1} → statement M
-same-spec =
-    tie.close (tie.spec
-    (λ c. sym (unequal-lengths _ _ (c .if1 .taken)))
-    (λ c κs. search needs)
-    (λ c. search needs)
-    (λ c κs. search needs)
-    (λ c. search needs))
+same-spec = tie.close (tie.spec (λ c κs. search needs) returns)

@@ -7,7 +7,6 @@ use lib.ListN.{getD, take, drop}
 use Rattle.bytes_at.specs.Bytes.{sameBytes}
 use Rattle.bytes_at.proofs.Searched.{Searched, searched-none, searched-on, searched-here, searched-out}
 use Rattle.column_desc.specs.ColumnDesc.{firstPart}
-use Rattle.column_desc.proofs.Names.{same-part}
 use Rattle.column_desc.proofs.first_named.Statement.{statement}
 use Rattle.column_desc.proofs.first_named.Tie as tie
 
@@ -19,10 +18,10 @@ abbrev μ-loop : tie.MeasureT-loop
 
 returns : tie.Need-returns Inv-loop μ-loop
 unfolding firstPart
-returns c = searched-here (c .before .before .before .before .before .before .loop .inv) (omega arith) (same-part _ (c .before .same .ensures) (c .before .before .part .ensures) (c .if1 .taken))
+returns c = searched-here (c .before .before .before .before .before .loop .inv) (omega arith) (sym (c .before .is-at .ensures) ∙ c .if1 .taken)
 
 loop-again : tie.Need-loop-again Inv-loop μ-loop
-loop-again c = searched-on (c .before .before .before .before .before .before .loop .inv) (omega arith) (same-part _ (c .before .same .ensures) (c .before .before .part .ensures) (c .if1 .left))
+loop-again c = searched-on (c .before .before .before .before .before .loop .inv) (omega arith) (sym (c .before .is-at .ensures) ∙ c .if1 .left)
 
 returns-2 : tie.Need-returns-2 Inv-loop μ-loop
 unfolding firstPart
@@ -39,7 +38,6 @@ first-named-spec =
     (λ c. search needs)
     (λ c. search needs)
     (λ c. search needs)
-    (λ c κs. search needs)
     (λ c κs. search needs)
     returns
     (λ c. search needs)

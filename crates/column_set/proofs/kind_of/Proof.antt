@@ -1,23 +1,24 @@
 -- `column_set::kind_of` meets its contract: the name is compared as the definition says.
+use mathlib.Core.Path.{sym, _∙_}
+use lib.Seq.{take-length}
 use borrow.Author.Needs.{needs}
-use Rattle.bytes_at.proofs.Stepped.{free}
 use Rattle.column_set.specs.ColumnSet.{kindOf}
 use Rattle.column_set.proofs.kind_of.Statement.{statement}
 use Rattle.column_set.proofs.kind_of.Tie as tie
 
 returns : tie.Need-returns
 unfolding kindOf
-returns c = rw (← (c .before .same .ensures), c .if1 .taken)
+returns c = rw (sym (rw take-length at (c .before .is-text .ensures)) ∙ c .if1 .taken)
 
 returns-2 : tie.Need-returns-2
 unfolding kindOf
 returns-2 c =
-    rw (← (c .before .before .before .before .same .ensures), c .before .before .before .if1 .left, ← (c .before .same2 .ensures), c .if2 .taken)
+    rw (sym (rw take-length at (c .before .before .before .before .before .is-text .ensures)) ∙ c .before .before .before .before .if1 .left, sym (rw take-length at (c .before .is-text2 .ensures)) ∙ c .if2 .taken)
 
 returns-3 : tie.Need-returns-3
 unfolding kindOf
 returns-3 c =
-    rw (← (c .before .before .before .before .same .ensures), c .before .before .before .if1 .left, ← (c .before .same2 .ensures), c .if2 .left)
+    rw (sym (rw take-length at (c .before .before .before .before .before .is-text .ensures)) ∙ c .before .before .before .before .if1 .left, sym (rw take-length at (c .before .is-text2 .ensures)) ∙ c .if2 .left)
 
 pub kind-of-spec : {M : Type 1} → statement M
-kind-of-spec = tie.close (tie.spec (λ c. search needs) free returns (λ c. search needs) free returns-2 returns-3)
+kind-of-spec = tie.close (tie.spec (λ c κs. search needs) returns (λ c κs. search needs) returns-2 returns-3)

@@ -6,13 +6,19 @@ use lib.Seq.{set-out}
 use Rattle.column_set.proofs.one_more.Statement.{statement}
 use Rattle.column_set.proofs.one_more.Tie as tie
 
+add-counts : tie.Need-add-counts
+add-counts c = omega (arith, c .before .before .pre .1 (c .before .before .args .k))
+
+returns-2 : tie.Need-returns-2
+returns-2 c = sym (set-out _ _ _ (omega (arith, c .before .pre .0)))
+
 pub one-more-spec : {M : Type 1} → statement M
 one-more-spec =
     tie.close (tie.spec
     (λ c. search needs)
     (λ c. search needs)
-    (λ c. omega (arith, c .before .pre (c .before .args .k)))
+    add-counts
     (λ c. search needs)
     (λ c. search needs)
     (λ c. search needs)
-    (λ c. sym (set-out _ _ _ (omega arith))))
+    returns-2)

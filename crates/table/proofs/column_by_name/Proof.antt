@@ -1,6 +1,6 @@
 -- `table::column_by_name` meets its contract. The loop's invariant: no column before i has the name.
 use Prim.Native.Nat.{ℕ, _-_}
-use mathlib.Core.Path.{_≡_}
+use mathlib.Core.Path.{_≡_, sym, _∙_}
 use native.Mathlib.Omega.{arith}
 use borrow.Author.Needs.{needs}
 use lib.ListN.{getD}
@@ -8,7 +8,6 @@ use Rattle.bytes_at.proofs.Searched.{Searched, searched-none, searched-on, sear
 use Rattle.bytes_at.proofs.Stepped.{via, free}
 use Rattle.column_desc.specs.ColumnDesc.{isNamed, blank}
 use Rattle.column_desc.specs.ColumnDesc.{firstNamed}
-use Rattle.column_desc.proofs.Names.{same-part}
 use Rattle.table.proofs.Named.{not-described, found-at, not-found}
 use Rattle.table.proofs.column_by_name.Statement.{statement}
 use Rattle.table.proofs.column_by_name.Tie as tie
@@ -25,13 +24,13 @@ returns c = not-described _ _ _ (c .before .describe .ensures .0) (c .if1 .taken
 returns-2 : tie.Need-returns-2 Inv-loop μ-loop
 unfolding firstNamed isNamed blank
 returns-2 c =
-    found-at _ _ _ (c .before .before .before .before .before .before .before .before .describe .ensures .0) (c .before .before .before .before .before .before .before .if1 .left) _
-    (searched-here (c .before .before .before .before .before .loop .inv) (omega arith) (same-part _ (c .before .same .ensures) (c .before .before .part .ensures) (c .if2 .taken)))
+    found-at _ _ _ (c .before .before .before .before .before .before .before .describe .ensures .0) (c .before .before .before .before .before .before .if1 .left) _
+    (searched-here (c .before .before .before .before .loop .inv) (omega arith) (sym (c .before .is-at .ensures) ∙ c .if2 .taken))
     (omega arith)
 
 loop-again : tie.Need-loop-again Inv-loop μ-loop
 unfolding isNamed blank
-loop-again c = searched-on (c .before .before .before .before .before .loop .inv) (omega arith) (same-part _ (c .before .same .ensures) (c .before .before .part .ensures) (c .if2 .left))
+loop-again c = searched-on (c .before .before .before .before .loop .inv) (omega arith) (sym (c .before .is-at .ensures) ∙ c .if2 .left)
 
 returns-3 : tie.Need-returns-3 Inv-loop μ-loop
 unfolding firstNamed
@@ -51,7 +50,6 @@ column-by-name-spec =
     (λ c. searched-none _ _)
     (λ c. search needs)
     (λ c. search needs)
-    (λ c κs. search needs)
     (λ c κs. search needs)
     returns-2
     (λ c. search needs)
