@@ -1,0 +1,42 @@
+-- `lookup::stages` meets its contract: its calls compose as the definition says.
+use borrow.Author.Needs.{needs}
+use mathlib.Core.Path.{refl, sym}
+use Rattle.bytes_at.proofs.Stepped.{via, free}
+use Rattle.lookup_rules.specs.Questions.{stagesOf}
+use Rattle.lookup.proofs.Laws.{passed, room-text}
+use Rattle.lookup.proofs.stages.Statement.{statement}
+use Rattle.lookup.proofs.stages.Tie as tie
+
+returns : tie.Need-returns
+unfolding stagesOf
+returns c = (
+  via _ (c .before .before .before .before .before .before .before .before .before .before .before .before .describe .ensures .0)
+      (via _ (c .before .before .before .before .before .before .before .before .before .before .before .find-target .ensures)
+      (via _ (c .before .before .before .before .before .before .before .before .before .check .ensures .0)
+      (via _ (c .before .before .before .before .before .before .plan-for .ensures)
+      (via _ (c .before .before .before .before .before .fresh .ensures)
+      (via _ (c .before .before .before .before .stage .ensures)
+      (via _ (c .before .before .before .below .ensures)
+      (via _ (c .before .before .stage2 .ensures)
+      (via _ (c .before .seen .ensures)
+      (via _ (c .stage3 .ensures)
+      refl))))))))),
+  λ z. room-text _ _ _ (c .before .before .before .before .before .before .before .before .before .before .before .before .describe .ensures .0) (c .before .before .before .before .before .before .before .before .before .check .ensures .1 (passed _ _ _ _ (c .before .before .before .before .stage .ensures) (c .before .before .stage2 .ensures) (c .stage3 .ensures) z)),
+)
+
+pub stages-spec : {M : Type 1} → statement M
+stages-spec =
+    tie.close
+    (tie.spec
+    free
+    (λ c κs. search needs)
+    (λ c κs. search needs)
+    free
+    free
+    free
+    free
+    free
+    free
+    free
+    (λ c. search needs)
+    returns)
