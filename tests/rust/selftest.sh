@@ -29,11 +29,23 @@ expect() {
 
 expect 0 "no difference" --min 12000 --each 1..8 tables 1 12000 , large 1 20 , bad -- "$model"
 expect 0 "no difference" --min 3000 prefixes -- "$model"
+expect 0 "no difference" --min 10000 --each 1..14 standard 1 10000 -- "$model"
+expect 0 "no difference" --min 10000 --each 1..12 incremental 1 10000 -- "$model"
+expect 0 "no difference" --min 5000 --each 1..14 small-file -- "$model"
+expect 0 "no difference" --min 10 files-large 1 10 -- "$model"
 
 expect 1 "difference at request" tables 1 3000 -- sh -c "'$model' | sed 's/^refused 7/refused 1/'"
 # The saved request is the one with the difference.
 [ "$("$model" <"$saved")" = "refused 7" ]
 expect 1 "difference at request" prefixes -- sh -c "'$model' | sed 's/^ok rows=7/ok rows=8/'"
+# A room that is not cleared, or not filled.
+expect 1 "difference at request" standard 1 1000 -- sh -c "'$model' | sed 's/^refused 9 00/refused 9 a5/'"
+expect 1 "difference at request" small-file -- sh -c "'$model' | sed 's/^ok SSM be/ok SSM 00/'"
+expect 1 "difference at request" incremental 1 1000 -- sh -c "'$model' | sed 's/^refused 11/refused 1/'"
+# The saved request again.
+expect 1 "difference at request 1 " --replay "$saved" -- sh -c "'$model' | sed 's/^refused 11/refused 1/'"
+expect 0 "1 requests compared" --replay "$saved" -- "$model"
+expect 1 "can not be read" --replay "$scratch/none" -- "$model"
 expect 1 "no answer" tables 1 3000 -- sh -c "'$model' | head -n 5"
 expect 1 "no answer" tables 1 3000 -- true
 expect 1 "more than 100 answers" tables 1 100 -- sh -c "'$model'; echo ok"
@@ -44,8 +56,10 @@ expect 1 "did not occur: 9" --each 1..9 tables 1 3000 -- "$model"
 expect 2 "usage" tables -- "$model"
 
 # The same seed gives the same requests, and the samples are up to date.
-"$bin/requests" tables 1 200 >"$scratch/requests"
-"$bin/requests" tables 1 200 | cmp - "$scratch/requests"
+for set in tables standard incremental; do
+    "$bin/requests" "$set" 1 200 >"$scratch/requests"
+    "$bin/requests" "$set" 1 200 | cmp - "$scratch/requests"
+done
 "$bin/requests" sample "$scratch/samples"
 diff -r "$scratch/samples" ../../samples
 

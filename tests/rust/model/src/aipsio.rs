@@ -10,6 +10,9 @@ use std::ops::RangeInclusive;
 /// The longest string that is not a column name.
 const MAX_STRING: usize = 4096;
 
+/// Numbers of 4 bytes, as they are stored.
+pub type Numbers<'a> = &'a [[u8; 4]];
+
 /// The bytes of a file or object that are still to be read.
 #[derive(Clone, Debug)]
 pub struct Reader<'a> {
@@ -131,7 +134,7 @@ impl<'a> Reader<'a> {
 
     /// A Block of `count` numbers of 4 bytes; another count disagrees, before
     /// the numbers are looked at.
-    pub fn block(&mut self, count: u64) -> Result<&'a [[u8; 4]], u8> {
+    pub fn block(&mut self, count: u64) -> Result<Numbers<'a>, u8> {
         let (_, mut fields) = self.object(b"Block", &[1])?;
         let stated = fields.uint()?;
         if u64::from(stated) != count {

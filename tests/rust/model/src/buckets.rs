@@ -116,7 +116,7 @@ impl<'a> Buckets<'a> {
         let mut free = BucketSet::default();
         self.follow(first, length, |bucket| {
             free.insert(bucket);
-            Ok(Reader::new(self.bucket(bucket)).int()?)
+            Reader::new(self.bucket(bucket)).int()
         })?;
         Ok(free)
     }

@@ -1,7 +1,7 @@
 //! The files of IncrementalStMan: document 01, IncrementalStMan, and Note 260,
 //! section 3.4.3.
 
-use crate::aipsio::Reader;
+use crate::aipsio::{Numbers, Reader};
 use crate::buckets::{BucketSet, Buckets, header};
 use crate::data_type::DataType;
 use crate::refusal::{ENDS_EARLY, WRONG_MAP, WRONG_VERSION};
@@ -16,9 +16,9 @@ pub struct IncrementalFile<'a> {
     buckets: Buckets<'a>,
     big_endian: bool,
     /// Of each bucket in the index, and the row count.
-    first_rows: &'a [[u8; 4]],
+    first_rows: Numbers<'a>,
     /// The buckets in the index.
-    numbers: &'a [[u8; 4]],
+    numbers: Numbers<'a>,
 }
 
 impl<'a> IncrementalFile<'a> {
@@ -35,8 +35,9 @@ impl<'a> IncrementalFile<'a> {
         let free = buckets.free_list(first_free, free_count)?;
         let file = Self { buckets, big_endian, first_rows, numbers };
         file.check_index(free, description.rows)?;
+        let sizes: Vec<u32> = description.columns_of(manager).map(judged_size).collect();
         for entry in 0..numbers.len() {
-            file.check_bucket(entry, description.columns_of(manager))?;
+            file.check_bucket(entry, &sizes)?;
         }
         Ok(file)
     }
@@ -57,11 +58,9 @@ impl<'a> IncrementalFile<'a> {
         Ok(())
     }
 
-    fn check_bucket<'c>(
-        &self,
-        entry: usize,
-        columns: impl Iterator<Item = &'c Column<'c>>,
-    ) -> Result<(), u8> {
+    /// The bucket's index: for each column, of which the judged sizes are
+    /// given, its values.
+    fn check_bucket(&self, entry: usize, sizes: &[u32]) -> Result<(), u8> {
         let bucket = self.bucket(entry);
         let offset = BucketReader::new(bucket, self.big_endian).uint()?;
         if offset >> 24 != 0 {
@@ -73,12 +72,7 @@ impl<'a> IncrementalFile<'a> {
         let index = bucket.get(offset as usize..).ok_or(WRONG_MAP)?;
         let mut fields = BucketReader::new(index, self.big_endian);
         let rows = self.first_row(entry + 1) - self.first_row(entry);
-        for column in columns {
-            // Only the offset of a String is judged.
-            let cell = match column.data_type {
-                DataType::String => 0,
-                _ => column.cell_bits.div_ceil(8),
-            };
+        for size in sizes {
             let count = fields.uint()?;
             if count == 0 {
                 return Err(WRONG_MAP);
@@ -93,7 +87,7 @@ impl<'a> IncrementalFile<'a> {
             }
             for _ in 0..count {
                 let start = fields.uint()?;
-                if u64::from(start) + u64::from(cell) > u64::from(offset - DATA_START) {
+                if u64::from(start) + u64::from(*size) > u64::from(offset - DATA_START) {
                     return Err(WRONG_MAP);
                 }
             }
@@ -139,8 +133,17 @@ impl<'a> IncrementalFile<'a> {
     }
 }
 
+/// The bytes that a value takes at least: a cell's whole bytes, none of a
+/// String, of which only the offset is judged.
+fn judged_size(column: &Column<'_>) -> u32 {
+    match column.data_type {
+        DataType::String => 0,
+        _ => column.cell_bits.div_ceil(8),
+    }
+}
+
 /// ISMIndex: the first rows and the numbers of the buckets.
-fn read_index(container: &[u8]) -> Result<(&[[u8; 4]], &[[u8; 4]]), u8> {
+fn read_index(container: &[u8]) -> Result<(Numbers<'_>, Numbers<'_>), u8> {
     let mut container = Reader::new(container);
     container.expect_mark()?;
     let (_, mut fields) = container.object(b"ISMIndex", &[1])?;
@@ -173,7 +176,7 @@ impl<'a> BucketReader<'a> {
     }
 
     /// A column's values: their first rows and their offsets.
-    fn values(&mut self) -> Result<(&'a [[u8; 4]], &'a [[u8; 4]]), u8> {
+    fn values(&mut self) -> Result<(Numbers<'a>, Numbers<'a>), u8> {
         let count = self.uint()? as usize;
         let (values, rest) = self.rest.split_at_checked(8 * count).ok_or(ENDS_EARLY)?;
         self.rest = rest;

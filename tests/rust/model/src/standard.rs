@@ -1,7 +1,7 @@
 //! The files of StandardStMan: document 01, StandardStMan, and Note 260,
 //! section 3.4.2.
 
-use crate::aipsio::Reader;
+use crate::aipsio::{Numbers, Reader};
 use crate::buckets::{BucketSet, Buckets, HeaderStart, header};
 use crate::refusal::{OUT_OF_RANGE, SHORT_ROOM, WRONG_CHAIN, WRONG_MAP};
 use crate::table::{Column, Description};
@@ -32,8 +32,8 @@ struct Header {
 struct Index<'a> {
     rows_per_bucket: u32,
     columns: i32,
-    last_rows: &'a [[u8; 4]],
-    buckets: &'a [[u8; 4]],
+    last_rows: Numbers<'a>,
+    buckets: Numbers<'a>,
 }
 
 /// A file that was checked.
@@ -101,7 +101,7 @@ impl<'a> StandardFile<'a> {
     /// The manager's columns are in sets that are there, each set has as many
     /// as it says, and their extents lie in the bucket and do not meet.
     fn check_columns<'c>(&self, columns: impl Iterator<Item = &'c Column<'c>>) -> Result<(), u8> {
-        let mut counts = vec![0; self.indices.len()];
+        let mut counts = [0; MAX_INDICES as usize];
         let mut extents = Vec::new();
         for column in columns {
             let set = column.set as usize;

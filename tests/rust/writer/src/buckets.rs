@@ -6,7 +6,7 @@
 
 use crate::encode::Encoder;
 use crate::rng::Rng;
-use crate::table::{Header, Table};
+use crate::table::{Column, Header, Table};
 
 /// The buckets follow the header's part of the file.
 pub const HEADER_ROOM: usize = 512;
@@ -39,6 +39,8 @@ pub trait BucketFile: Clone {
     fn border_rows(&self) -> Vec<u32>;
     /// The length of the index text; 0 where no room is needed.
     fn index_length(&self) -> usize;
+    /// Whether the cells of a column of the manager have a place.
+    fn has_place(&self, column: &Column) -> bool;
     /// The plan of a column, as if it were one of the manager's.
     fn plan(&self, table: &Table, position: usize) -> [u64; 9];
     /// The first bit and bit count of a cell of one of the manager's columns.

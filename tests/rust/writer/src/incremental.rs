@@ -6,7 +6,7 @@ pub mod generate;
 use crate::buckets::{Block, BucketFile, Buckets};
 use crate::cells;
 use crate::encode::{Encoder, Layout};
-use crate::table::{Header, Table};
+use crate::table::{Column, Header, STRING, Table};
 
 /// A bucket begins with the offset of its index; the data part follows it.
 pub const DATA_START: u32 = 4;
@@ -163,6 +163,10 @@ impl BucketFile for IncrementalFile {
 
     fn index_length(&self) -> usize {
         0
+    }
+
+    fn has_place(&self, column: &Column) -> bool {
+        column.data_type != STRING.number
     }
 
     fn plan(&self, table: &Table, position: usize) -> [u64; 9] {

@@ -51,15 +51,8 @@ pub fn standard(rng: &mut Rng) -> Subject<StandardFile> {
             offset += cells::extent(&column, rows_per_bucket) as u32;
             columns.push(column);
         }
-        let mut next = 0;
-        let entries: Vec<(u32, u32)> = lean::parts(rng, rows, rows_per_bucket)
-            .into_iter()
-            .map(|part| {
-                next += part;
-                (next - 1, 0)
-            })
-            .collect();
-        indices.push(Index::new(rows_per_bucket, 4, &entries));
+        let parts = lean::parts(rng, rows, rows_per_bucket);
+        indices.push(Index::new(rows_per_bucket, 4, &standard::generate::entries(&parts)));
     }
     rng.shuffle(&mut columns);
     let table = lean::bare(rows, endianness, columns, vec![Manager::new("StandardStMan", 0)]);
@@ -133,7 +126,7 @@ pub fn incremental(rng: &mut Rng) -> Subject<IncrementalFile> {
 /// StandardStMan: buckets of 1,048,576 bytes, one of them filled by a Bool
 /// column of 8,388,608 rows; or only the index's bucket and no rows.
 pub fn large_bucket(rng: &mut Rng, variant: u64) -> Subject<StandardFile> {
-    let rows = if variant % 2 == 0 { 8_388_608 } else { 0 };
+    let rows = if variant.is_multiple_of(2) { 8_388_608 } else { 0 };
     let columns = vec![Column::scalar(BOOL, "")];
     let table = lean::bare(rows, 1, columns, vec![Manager::new("StandardStMan", 0)]);
     let entries: &[(u32, u32)] = if rows > 0 { &[(rows - 1, 0)] } else { &[] };

@@ -48,11 +48,15 @@ pub fn column(rng: &mut Rng) -> Column {
             let axes = axes(rng, 5);
             Column::direct(data_type, "", &axes).string_maximum(maximum(rng))
         }
-        10 => {
-            let axes = axes(rng, 1000);
-            Column::fixed(data_type, "", &axes).string_maximum(maximum(rng))
+        // Arrays in the array file, often of Bools.
+        indirect => {
+            let data_type = if rng.chance(1, 3) { BOOL } else { data_type };
+            let column = match indirect {
+                10 => Column::fixed(data_type, "", &axes(rng, 1000)),
+                _ => Column::array(data_type, ""),
+            };
+            column.string_maximum(maximum(rng))
         }
-        _ => Column::array(data_type, "").string_maximum(maximum(rng)),
     }
 }
 

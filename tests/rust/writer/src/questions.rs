@@ -21,8 +21,9 @@ pub struct Asked {
     pub rows: u32,
     /// Rows beside borders.
     pub border_rows: Vec<u32>,
-    /// The positions of the manager's columns.
-    pub own: Vec<usize>,
+    /// The positions of the manager's columns that have places, and of its
+    /// others.
+    pub own: [Vec<usize>; 2],
     /// A plan for each column of the table.
     pub plans: Vec<[u64; 9]>,
     /// Plans with mistakes that are easily made.
@@ -47,6 +48,9 @@ impl Asked {
                 wrong
             })
             .collect();
+        let own = subject.own_columns();
+        let (with_place, others) =
+            own.iter().partition(|position| file.has_place(&table.columns()[**position]));
         Self {
             table: table.encode(),
             file: file.encode(),
@@ -54,7 +58,7 @@ impl Asked {
             numbers: table.managers().iter().map(|manager| manager.number).collect(),
             rows: table.rows,
             border_rows: file.border_rows(),
-            own: subject.own_columns(),
+            own: [with_place, others],
             plans,
             wrong_plans,
             index_length: file.index_length(),
@@ -124,7 +128,7 @@ impl Asked {
 
     fn some_number(&self, rng: &mut Rng) -> u64 {
         let own = u64::from(self.number);
-        match rng.below(24) {
+        match rng.below(36) {
             0 if !self.numbers.is_empty() => rng.pick(&self.numbers).into(),
             1 => own + 1,
             2 => own ^ 1,
@@ -136,12 +140,14 @@ impl Asked {
 
     fn some_position(&self, rng: &mut Rng) -> u64 {
         let columns = self.plans.len() as u64;
-        let own = if self.own.is_empty() { 0 } else { rng.pick(&self.own) as u64 };
-        match rng.below(24) {
+        let [with_place, others] = &self.own;
+        let own = if with_place.is_empty() { 0 } else { rng.pick(with_place) as u64 };
+        match rng.below(30) {
             0 | 1 => rng.below(columns as usize + 1) as u64,
             2 => columns,
             3 => own | 1 << 32,
             4 => rng.pick(&[u64::MAX, columns + 1, 64, 1 << 63 | own, 256 + own]),
+            5 if !others.is_empty() => rng.pick(others) as u64,
             _ => own,
         }
     }

@@ -324,6 +324,45 @@ fn bad() -> Vec<String> {
         "listing 0G",
         "list -",
         "rows -",
+        "check",
+        "check - 0 -",
+        "check - 0 - 0 0",
+        "check - - - 0",
+        "check - x - 0",
+        "check - -1 - 0",
+        "check - 1.0 - 0",
+        "check - 0x1 - 0",
+        "check - 18446744073709551616 - 0",
+        "check - 99999999999999999999999 - 0",
+        "check - 0 0 0",
+        "check - 0 BE 0",
+        "check - 0 - -",
+        "check - 0 - -1",
+        "check - 0 - 1048577",
+        "check - 0 - 18446744073709551616",
+        "plan - - 0",
+        "plan - - 0 0 0",
+        "plan - - - 0",
+        "plan - 0 0 0",
+        "place - - 0 0",
+        "place - - 0 0 0 0",
+        "place - - 0 y 0",
+        "place - - 0, 0 0",
+        "view - - 0 0",
+        "view - - 18446744073709551616 0 0",
+        "placeplan - - 0 0 0",
+        "placeplan - - 0 0,0,0,0,0,0,0,0 0",
+        "placeplan - - 0 0,0,0,0,0,0,0,0,0,0 0",
+        "placeplan - - 0 0,0,0,0,0,0,0,0, 0",
+        "placeplan - - 0 ,0,0,0,0,0,0,0,0 0",
+        "placeplan - - 0 0,0,0,0,x,0,0,0,0 0",
+        "placeplan - - 0 0,0,0,0,-1,0,0,0,0 0",
+        "viewplan - - 0 0;0;0;0;0;0;0;0;0 0",
+        "viewplan - - 0 0,0,0,0,0,0,0,0,18446744073709551616 0",
+        "viewplan - - 0 18446744073709551616,0,0,0,0,0,0,0,0 0",
+        "viewplan - - 0 0,0,0,0,0,0,0,0,0",
+        "viewplan - - 0 0,0,0,0,0,0,0,0,0 0 0",
+        "checkplan - 0 - 0",
     ]
     .map(String::from)
     .into();
@@ -332,5 +371,8 @@ fn bad() -> Vec<String> {
     lines.push(format!("describe {}", good.to_uppercase()));
     lines.push(format!("column {good}"));
     lines.push(format!("column {good} 5"));
+    lines.push(format!("check {good} 0 {good} -"));
+    lines.push(format!("plan {good} {good} 0"));
+    lines.push(format!("place {good} {good} 0 0 1048577"));
     lines
 }

@@ -59,6 +59,7 @@ fn rooms(asked: &Asked) -> Vec<String> {
         lines.push(asked.planned_cell("placeplan", 5, &asked.plans[TIME], room));
         lines.push(asked.planned_cell("viewplan", 5, &asked.plans[TIME], room));
     }
+    lines.push(asked.check(0, 1_048_576)); // the longest room that is lent
     lines
 }
 

@@ -6,7 +6,7 @@ pub mod generate;
 use crate::buckets::{Block, BucketFile, Buckets};
 use crate::cells;
 use crate::encode::{Encoder, Layout};
-use crate::table::{Header, Table};
+use crate::table::{Column, Header, Table};
 
 /// An index bucket of a chain begins with the next number, twice.
 pub const LINKS: usize = 8;
@@ -222,6 +222,10 @@ impl BucketFile for StandardFile {
 
     fn index_length(&self) -> usize {
         self.index_length.map_or_else(|| self.text().bytes.len(), |length| length as usize)
+    }
+
+    fn has_place(&self, _: &Column) -> bool {
+        true
     }
 
     fn plan(&self, table: &Table, position: usize) -> [u64; 9] {

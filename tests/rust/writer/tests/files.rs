@@ -58,7 +58,11 @@ fn assert_cells<F: BucketFile>(subject: &Subject<F>, number: u64, is_standard: b
             ]
         });
         let position = position as u64;
-        if !is_standard && column.data_type == STRING.number {
+        assert_eq!(
+            subject.file.has_place(column),
+            is_standard || column.data_type != STRING.number
+        );
+        if !subject.file.has_place(column) {
             assert_eq!(fields, Err(8), "case {number}");
             assert_eq!(model::place(&table, &file, 0, position, &mut room), Err(8));
             continue;
@@ -143,6 +147,7 @@ fn every_standard_fault_is_reached() {
         "cache size",
         "last heap bucket",
         "index chain longer",
+        "entry split in two",
         "prefix before the offset",
         "free-space contents",
         "more free buckets",

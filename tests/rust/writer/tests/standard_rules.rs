@@ -35,7 +35,7 @@ fn samples_are_accepted() {
     let (table, file) = (subject.table.encode(), subject.file.encode());
     assert_eq!(table, samples::all()[0].1);
     assert_eq!(file.len(), 832);
-    let room = &mut vec![0; 134];
+    let room = &mut [0; 134];
     assert_eq!(check(&table, 0, &file, room), Ok(Kind::Standard));
     // The cells have the values that the sample gives them.
     let time = view(&table, &file, 5, 2, room).unwrap();
@@ -52,7 +52,7 @@ fn samples_are_accepted() {
     let subject = samples::arrays_standard();
     let (table, file) = (subject.table.encode(), subject.file.encode());
     assert_eq!(table, samples::all()[1].1);
-    let room = &mut vec![0; 252];
+    let room = &mut [0; 252];
     assert_eq!(check(&table, 0, &file, room), Ok(Kind::Standard));
     assert_eq!(view(&table, &file, 3, 11, room).unwrap(), b"RT3\0\0\0\0\0\0\0\0\0\0\0\0\0");
     assert_eq!(view(&table, &file, 1, 10, room).unwrap(), b"observer\x08\0\0\0");

@@ -1,6 +1,6 @@
 //! Pseudo random good tables with an IncrementalStMan file.
 
-use super::{DATA_START, DataBucket, IncrementalFile, Values};
+use super::{DataBucket, IncrementalFile, Values};
 use crate::buckets::{Buckets, Subject};
 use crate::cells;
 use crate::lean;
@@ -14,7 +14,9 @@ pub fn subject(rng: &mut Rng) -> Subject<IncrementalFile> {
         1 => rng.within(5..=9),
         _ => rng.within(1..=4),
     };
-    let own = (0..columns).map(|_| lean::column(rng)).collect();
+    // The sets and offsets of IncrementalStMan are not used.
+    let any = |rng: &mut Rng| if rng.chance(1, 2) { 0 } else { rng.uint() >> rng.below(32) };
+    let own = (0..columns).map(|_| lean::column(rng).at(any(rng), any(rng))).collect();
     let rows = match rng.below(12) {
         0 => 0,
         1 => 1,
@@ -25,6 +27,13 @@ pub fn subject(rng: &mut Rng) -> Subject<IncrementalFile> {
     let endianness = rng.below(2) as u32;
     let (managers, number) = lean::managers(rng, "IncrementalStMan");
     let table = lean::table(rng, (rows, endianness), own, managers, number);
+    let file = file(rng, &table, number);
+    Subject { table, number, file }
+}
+
+/// The file of a table's manager.
+pub fn file(rng: &mut Rng, table: &Table, number: u32) -> IncrementalFile {
+    let rows = table.rows;
     let most = match rng.below(4) {
         0 => rows,
         _ => rows.div_ceil(rng.within(1..=6) as u32),
@@ -33,11 +42,10 @@ pub fn subject(rng: &mut Rng) -> Subject<IncrementalFile> {
     for part in lean::parts(rng, rows, most.max(rows / 8).max(1)) {
         first_rows.push(first_rows.last().unwrap_or(&0) + part);
     }
-    let file = with_rows(rng, &table, number, first_rows);
-    Subject { table, number, file }
+    with_rows(rng, table, number, first_rows)
 }
 
-/// The file of the manager with this number: buckets with these first rows.
+/// The same, with buckets of these first rows.
 fn with_rows(rng: &mut Rng, table: &Table, number: u32, first_rows: Vec<u32>) -> IncrementalFile {
     let columns: Vec<&Column> =
         table.columns().iter().filter(|column| column.info.manager == number).collect();
@@ -135,9 +143,6 @@ fn starts(rng: &mut Rng, rows: u32, most: usize) -> Vec<u32> {
 
 /// The largest offset that a value of a column may have in this bucket.
 pub fn last_offset(column: &Column, bucket: &DataBucket) -> Option<u32> {
-    let data = bucket
-        .index_offset
-        .map_or(bucket.data.len() as u64, |offset| u64::from(offset.saturating_sub(DATA_START)));
     let size = if column.data_type == STRING.number { 0 } else { cells::extent(column, 1) };
-    data.checked_sub(size).map(|offset| offset as u32)
+    (bucket.data.len() as u64).checked_sub(size).map(|offset| offset as u32)
 }

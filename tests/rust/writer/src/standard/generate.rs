@@ -92,19 +92,11 @@ fn with_sets(rng: &mut Rng, rows: u32, sets: Vec<Set>) -> Subject<StandardFile> 
     let mut columns = Vec::new();
     let mut indices = Vec::new();
     for (number, set) in sets.into_iter().enumerate() {
-        let spans = match rows {
+        let parts = match rows {
             0..=1000 => lean::parts(rng, rows, set.rows_per_bucket),
             _ => full_parts(rows, set.rows_per_bucket),
         };
-        let mut next = 0;
-        let entries: Vec<(u32, u32)> = spans
-            .into_iter()
-            .map(|span| {
-                next += span;
-                (next - 1, 0)
-            })
-            .collect();
-        let mut index = Index::new(set.rows_per_bucket, set.columns.len(), &entries);
+        let mut index = Index::new(set.rows_per_bucket, set.columns.len(), &entries(&parts));
         index.free_space = free_space(rng);
         indices.push(index);
         columns.extend(set.columns.into_iter().map(|column| {
@@ -127,10 +119,21 @@ fn with_sets(rng: &mut Rng, rows: u32, sets: Vec<Set>) -> Subject<StandardFile> 
     Subject { table, number, file }
 }
 
+/// The entries of buckets with so many rows each; their numbers are chosen
+/// later.
+pub fn entries(parts: &[u32]) -> Vec<(u32, u32)> {
+    let mut rows = 0;
+    let entry = |part: &u32| {
+        rows += part;
+        (rows - 1, 0)
+    };
+    parts.iter().map(entry).collect()
+}
+
 /// Full buckets only.
 fn full_parts(rows: u32, most: u32) -> Vec<u32> {
     let mut parts = vec![most; (rows / most) as usize];
-    if rows % most > 0 {
+    if !rows.is_multiple_of(most) {
         parts.push(rows % most);
     }
     parts
@@ -168,7 +171,7 @@ fn place_buckets(rng: &mut Rng, file: &mut StandardFile, least_size: u32) {
     } else {
         // In a chain, which the text may fill exactly.
         let sizes: Vec<u32> = (1..=8)
-            .filter(|part| length as u32 % part == 0)
+            .filter(|part| (length as u32).is_multiple_of(*part))
             .map(|part| links + length as u32 / part)
             .filter(|size| *size >= least_size && is_small(*size))
             .collect();
