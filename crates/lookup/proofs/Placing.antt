@@ -1,0 +1,108 @@
+-- What a file that is accepted shows of its sets.
+-- Assumes nothing.
+use mathlib.Core.Path.{_≡_, refl, sym, ap, _∙_}
+use mathlib.Core.List.{List}
+use mathlib.Core.Bool.{Bool, true, false, cond}
+use Prim.Native.Nat.{ℕ, _≤_, _<_, zero-le}
+use native.Mathlib.Omega.{arith}
+use lib.Dec.{T, eqb}
+use lib.ListN.{length, getD}
+use borrow.Author.Tests.{eq-eqb}
+use Rattle.bytes_at.specs.Stages.{_▷_, orNo}
+use Rattle.bytes_at.specs.declared.Width.the-variants.{Four}
+use Rattle.bytes_at.proofs.Stages.{then-left, then-right, or-passed}
+use Rattle.bytes_at.specs.Steps.{_>>=_}
+use Rattle.aipsio.specs.declared.Cursor.{Cursor}
+use Rattle.aipsio.proofs.Bounds.{ranged-le}
+use Rattle.column_desc.specs.ColumnDesc.{blank}
+use Rattle.column_set.specs.ColumnSet.{noBinding}
+use Rattle.table.specs.declared.Description.{Description}
+use Rattle.table.specs.Table.{headAt, describedAs, refusedWith}
+use Rattle.cell_map.specs.Map.{noColumn, columnAt, setAt, setOf as mapSetOf, noSet as noMapSet}
+use Rattle.cell_map.specs.Fits.{fits, covers}
+use Rattle.cell_map.specs.Demand.{Kept}
+use Rattle.cell_map.proofs.Checked.{accepted, set-covers}
+use Rattle.standard_text.specs.Header.{headerAt}
+use Rattle.standard_text.specs.Index.{noSet, indexAt, SetInside}
+use Rattle.standard_text.proofs.IndexLaws.{index-inside}
+use Rattle.standard_columns.proofs.Facts.{sets-length, sets-at, columns-at}
+use Rattle.standard_text.proofs.HeaderLaws.{header-bounds}
+use Rattle.standard_rules.specs.Rules.{textOf, setOf, columnOf, mapOf, refusalOf, checkedAs}
+
+module _ (d : Description) (sequence : ℕ) (f : List ℕ) (refused l : ℕ) where
+  index-passed : refusalOf d sequence f refused l ≡ 0 → indexAt (textOf f (headerAt f (d .big))) (headerAt f (d .big) .sets) .refused ≡ 0
+  unfolding refusalOf
+  index-passed z = search (then-left, then-right) depth 9
+
+  map-fits : refusalOf d sequence f refused l ≡ 0 → T (fits (mapOf d sequence f))
+  unfolding refusalOf
+  map-fits z = or-passed (fits (mapOf d sequence f)) 10 (search (then-left, then-right) depth 9)
+
+  -- the sets and the bucket size that the check tells are the file's
+  pub sets-told : refusalOf d sequence f refused l ≡ 0
+      → checkedAs d sequence f refused l .sets ≡ indexAt (textOf f (headerAt f (d .big))) (headerAt f (d .big) .sets) .sets
+  unfolding checkedAs
+  sets-told z = rw (eq-eqb (refusalOf d sequence f refused l) 0 z)
+
+  pub size-told : refusalOf d sequence f refused l ≡ 0 → checkedAs d sequence f refused l .size ≡ mapOf d sequence f .size
+  unfolding checkedAs mapOf
+  size-told z = rw (eq-eqb (refusalOf d sequence f refused l) 0 z)
+
+  map-sets : length (mapOf d sequence f .sets) ≡ headerAt f (d .big) .sets
+  unfolding mapOf
+  map-sets = sets-length _ _ _ 0
+
+  -- the set of a column that is kept is one of them
+  pub set-known : refusalOf d sequence f refused l ≡ 0 → (c : ℕ) → Kept (mapOf d sequence f) c → columnAt (mapOf d sequence f) c .set < headerAt f (d .big) .sets
+  set-known z c k = rw (← map-sets) (accepted (mapOf d sequence f) (map-fits z) .set-known c k)
+
+  -- the map's set is the text's
+  pub set-same : (k : ℕ) → k < headerAt f (d .big) .sets
+      → setAt (mapOf d sequence f) k ≡ setOf (textOf f (headerAt f (d .big))) (getD (indexAt (textOf f (headerAt f (d .big))) (headerAt f (d .big) .sets) .sets) k noSet)
+  unfolding mapOf
+  set-same k h = sets-at _ _ noMapSet _ k h
+
+  -- and its last rows cover the table's rows
+  pub set-covered : refusalOf d sequence f refused l ≡ 0 → (k : ℕ) → k < headerAt f (d .big) .sets
+      → T (covers (mapOf d sequence f .rows) (setAt (mapOf d sequence f) k .rowsPer) 0 (setAt (mapOf d sequence f) k .lasts))
+  set-covered z k h = set-covers (mapOf d sequence f) (map-fits z) k (rw map-sets h)
+
+  -- its lists lie in the text
+  pub set-inside : refusalOf d sequence f refused l ≡ 0 → (k : ℕ) → k < headerAt f (d .big) .sets
+      → SetInside (length (textOf f (headerAt f (d .big)))) 4 (getD (checkedAs d sequence f refused l .sets) k noSet)
+  set-inside z k h = rw (sets-told z) (index-inside _ 1 Four _ (header-bounds f 1 (d .big) .sets-most) (index-passed z) k h)
+
+  pub size-most : mapOf d sequence f .size ≤ 1048576
+  unfolding mapOf
+  size-most = header-bounds f 1 (d .big) .size-most
+
+  -- the map's column is the table's
+  pub column-same : (c : ℕ) → c < d .«column_count»
+      → columnAt (mapOf d sequence f) c ≡ columnOf sequence (getD (d .columns) c blank) (getD (d .bindings) c noBinding)
+  unfolding mapOf
+  column-same c h = columns-at sequence _ _ noColumn _ c h
+
+-- ---- the row count
+head-most : (s : List ℕ) (c : Cursor) → headAt s c .rows ≤ 2147483647
+unfolding headAt _>>=_
+head-most s c = ranged-le s c 4 0 2147483647 3
+
+either : (b : Bool) (x y : Description) → x .rows ≤ 2147483647 → y .rows ≤ 2147483647 → cond b x y .rows ≤ 2147483647
+either true x y h k = h
+either false x y h k = k
+
+refused-most : (n : ℕ) → refusedWith n .rows ≤ 2147483647
+unfolding refusedWith
+refused-most n = zero-le
+
+-- a line of the definition
+line : {A : Type 0} (a : A) (next : A → Description) → ((x : A) → x ≡ a → next x .rows ≤ 2147483647) → (a >>= next) .rows ≤ 2147483647
+unfolding _>>=_
+line a next h = h a refl
+
+pub rows-most : (t : List ℕ) → describedAs t .rows ≤ 2147483647
+unfolding describedAs
+rows-most t =
+    line _ _ (λ c _. line _ _ (λ m _. line _ _ (λ u _. line _ _ (λ head e. line _ _ (λ o _. line _ _ (λ n _. line _ _ (λ cs _. line _ _ (λ end _. line _ _ (λ set _.
+    line _ _ (λ ms _. line _ _ (λ os _. line _ _ (λ is _. line _ _ (λ d _. line _ _ (λ bs _.
+    either (eqb (d .refused) 0) _ _ (rw e (head-most t (u .next))) (refused-most (d .refused))))))))))))))))
