@@ -58,8 +58,8 @@ impl<'a> IncrementalFile<'a> {
         Ok(())
     }
 
-    /// The bucket's index: for each column, of which the judged sizes are
-    /// given, its values.
+    /// A bucket's index: the first rows and the offsets of each column's
+    /// values, of which `sizes` are judged.
     fn check_bucket(&self, entry: usize, sizes: &[u32]) -> Result<(), u8> {
         let bucket = self.bucket(entry);
         let offset = BucketReader::new(bucket, self.big_endian).uint()?;
@@ -86,8 +86,8 @@ impl<'a> IncrementalFile<'a> {
                 least = start + 1;
             }
             for _ in 0..count {
-                let start = fields.uint()?;
-                if u64::from(start) + u64::from(*size) > u64::from(offset - DATA_START) {
+                let value = fields.uint()?;
+                if u64::from(value) + u64::from(*size) > u64::from(offset - DATA_START) {
                     return Err(WRONG_MAP);
                 }
             }

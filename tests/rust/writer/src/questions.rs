@@ -93,7 +93,10 @@ impl Asked {
     /// Some question.
     pub fn question(&self, rng: &mut Rng) -> String {
         let room = self.room(rng);
-        match rng.below(40) {
+        // Without columns only the check comes to the file.
+        let no_columns = self.own.iter().all(Vec::is_empty);
+        let word = if no_columns && rng.chance(3, 4) { 0 } else { rng.below(40) };
+        match word {
             0..=8 => self.check(self.some_number(rng), room),
             9..=14 => self.plan(self.some_position(rng), room),
             15..=22 => self.cell("place", self.some_row(rng), self.some_position(rng), room),
