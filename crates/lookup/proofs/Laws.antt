@@ -1,12 +1,11 @@
--- What no refusal shows, what stands past the end, and the room afterwards.
+-- What no refusal shows, the room afterwards, and the answers as their enums.
 -- Assumes nothing.
 use mathlib.Core.Path.{_≡_, refl, sym, ap, _∙_}
 use mathlib.Core.Bool.{Bool, true, false}
 use mathlib.Core.List.{List}
-use Prim.Native.Nat.{ℕ, _≤_, _<_}
+use Prim.Native.Nat.{ℕ, _/_}
 use native.Mathlib.Decide.{ℕ-discrete}
-use native.Mathlib.Omega.{arith}
-use lib.ListN.{length, getD, replicate, List·getD-eq-default}
+use lib.ListN.{length, replicate, take, drop}
 use borrow.Author.Tests.{eq-eqb, ne-eqb}
 use Rattle.bytes_at.specs.Stages.{_▷_, orNo}
 use Rattle.bytes_at.proofs.Stages.{then-left}
@@ -21,12 +20,11 @@ use Rattle.lookup_rules.specs.declared.Verdict.{Verdict}
 use Rattle.lookup_rules.specs.declared.Verdict.the-variants.{Accepted, Refused as NotAccepted}
 use Rattle.lookup_rules.specs.declared.Planned.{Planned}
 use Rattle.lookup_rules.specs.declared.Planned.the-variants.{Ready, Refused as NotPlanned}
-use Rattle.lookup_rules.specs.Questions.{stagesOf, answered, answerOf, roomAfter, verdictOf, planOf}
+use Rattle.lookup_rules.specs.declared.Placed.{Placed}
+use Rattle.lookup_rules.specs.declared.Placed.the-variants.{At, Refused as NotPlaced}
+use Rattle.lookup_rules.specs.declared.Answer.{Answer}
+use Rattle.lookup_rules.specs.Questions.{stagesOf, roomAfter, verdictOf, planOf, placedOf, viewOf}
 use Rattle.lookup.specs.Lookup.{settled}
-
--- past the end of n elements stands the default
-pub past : {A : Type 0} {r d : A} {i : ℕ} (n : ℕ) (xs : List A) → r ≡ d → length xs ≡ n → n ≤ i → r ≡ getD xs i d
-past {A} {r} {d} {i} n xs e l h = e ∙ sym (List·getD-eq-default xs d {n = i} (omega arith))
 
 -- the stages after the file's check
 pub passed : (n : ℕ) (b1 b2 b3 : Bool) {r1 r2 r3 : ℕ} → r1 ≡ n ▷ orNo b1 12 → r2 ≡ r1 ▷ orNo b2 9 → r3 ≡ r2 ▷ orNo b3 14 → r3 ≡ 0 → n ≡ 0
@@ -52,18 +50,32 @@ module _ (t f : List ℕ) (q : Question) (l : ℕ) where
         | no n ↦ rw (ne-eqb (s .refused) 0 n) ((rw (ne-eqb (s .refused) 0 n) at ex) ∙ ap (λ (k : ℕ). replicate k 0) el)
       ])
 
-  pub checked : {s : Staged} → s ≡ stagesOf t f q l → s .refused ≡ 0 → Accepted ≡ verdictOf (answerOf t f q l)
-  unfolding verdictOf answerOf answered
-  checked {s} e z = rw (← e, eq-eqb (s .refused) 0 z)
+-- ---- the answers as their enums
+module _ {a b : Answer} (e : a ≡ b) where
+  pub checked : a .refused ≡ 0 → Accepted ≡ verdictOf b
+  unfolding verdictOf
+  checked z = rw (← e, eq-eqb (a .refused) 0 z)
 
-  pub not-checked : {s : Staged} → s ≡ stagesOf t f q l → (s .refused ≡ 0 → ⊥) → NotAccepted (s .refused) ≡ verdictOf (answerOf t f q l)
-  unfolding verdictOf answerOf answered
-  not-checked {s} e n = rw (← e, ne-eqb (s .refused) 0 n, ne-eqb (s .refused) 0 n)
+  pub not-checked : (a .refused ≡ 0 → ⊥) → NotAccepted (a .refused) ≡ verdictOf b
+  unfolding verdictOf
+  not-checked n = rw (← e, ne-eqb (a .refused) 0 n)
 
-  pub planned : {s : Staged} → s ≡ stagesOf t f q l → s .refused ≡ 0 → Ready (s .plan) ≡ planOf (answerOf t f q l)
-  unfolding planOf answerOf answered
-  planned {s} e z = rw (← e, eq-eqb (s .refused) 0 z)
+  pub planned : a .refused ≡ 0 → Ready (a .plan) ≡ planOf b
+  unfolding planOf
+  planned z = rw (← e, eq-eqb (a .refused) 0 z)
 
-  pub not-planned : {s : Staged} → s ≡ stagesOf t f q l → (s .refused ≡ 0 → ⊥) → NotPlanned (s .refused) ≡ planOf (answerOf t f q l)
-  unfolding planOf answerOf answered
-  not-planned {s} e n = rw (← e, ne-eqb (s .refused) 0 n, ne-eqb (s .refused) 0 n)
+  pub not-planned : (a .refused ≡ 0 → ⊥) → NotPlanned (a .refused) ≡ planOf b
+  unfolding planOf
+  not-planned n = rw (← e, ne-eqb (a .refused) 0 n)
+
+pub placed-at : (a : Answer) → a .refused ≡ 0 → At (a .first) (a .count) ≡ placedOf a
+unfolding placedOf
+placed-at a z = rw (eq-eqb (a .refused) 0 z)
+
+pub not-placed : (a : Answer) → (a .refused ≡ 0 → ⊥) → NotPlaced (a .refused) ≡ placedOf a
+unfolding placedOf
+not-placed a n = rw (ne-eqb (a .refused) 0 n)
+
+pub view-is : (f : List ℕ) {a b : Answer} {v : List ℕ} → a ≡ b → v ≡ take (a .count / 8) (drop (a .first / 8) f) → v ≡ viewOf f b
+unfolding viewOf
+view-is f e h = rw (← e) h

@@ -1,10 +1,38 @@
--- The room after a question.
-use Prim.Native.Nat.{ℕ}
+-- The cell that a question asks for, by the lent room, and the room after a question.
+use Prim.Native.Nat.{ℕ, _≤_, _<_}
 use mathlib.Core.List.{List}
-use mathlib.Core.Bool.{cond}
+use mathlib.Core.Bool.{cond, _&&_}
 use lib.ListN.{length, replicate}
 use lib.Dec.{eqb}
+use Rattle.cell_map.specs.Map.{Bits}
+use Rattle.standard_text.specs.Index.{SetInside}
+use Rattle.standard_place.specs.Bit.{bitOf}
+use Rattle.lookup_rules.specs.declared.Question.{Question}
+use Rattle.lookup_rules.specs.declared.Staged.{Staged}
+use Rattle.lookup_rules.specs.declared.Answer.{Answer}
+use Rattle.lookup_rules.specs.Questions.{rowOf, asksCell, answered}
 
 -- "It is all zero after every refusal"
 unfoldable pub settled : ℕ → List ℕ → List ℕ
 settled refused room = cond (eqb refused 0) room (replicate (length room) 0)
+
+-- The index text in the room has the column's set, and no sum of a place wraps.
+pub record Findable (text : List ℕ) (s : Staged) (row : ℕ) : Type 0 where
+  pub inside : SetInside (length text) 4 (s .set)
+  pub some : 0 < s .set .entries
+  pub size-most : s .plan .size ≤ 1048576
+  pub offset-most : s .plan .offset < 4294967296
+  pub bits-most : s .plan .bits < 4294967296
+  pub row-most : row ≤ 2147483647
+
+-- the first bit of the cell, 0 where none is asked for or the question is refused
+unfoldable pub cellBit : List ℕ → Staged → Question → ℕ
+cellBit text s q =
+    cond (eqb (s .refused) 0 && asksCell q) (bitOf text (s .set) (s .plan .size) (s .plan .offset) (s .plan .bits) (rowOf q)) 0
+
+-- the answer with a first bit
+unfoldable pub answerWith : Staged → Question → ℕ → Answer
+answerWith s q first =
+    let cell : Bits = record { first = first; count = s .plan .bits } in
+    let none : Bits = record { first = 0; count = 0 } in
+    answered s (cond (asksCell q) cell none)

@@ -1,306 +1,46 @@
-// The public questions over a table and a data file (document 01, "The questions"): File check and Plan. Each is one question
-// to `ask_plan`, which alone clears the room.
+// The public questions over a table and a data file (document 01, "The questions"). Each is one question to `ask`, which alone
+// clears the room.
 ghost use mathlib.Core.Path.{_≡_};
 ghost use mathlib.Core.Bool.{_&&_};
-ghost use Prim.Native.Nat.{ℕ, _≤_, _<_};
-ghost use lib.Dec.{eqb};
-ghost use lib.ListN.{length, getD};
-ghost use Rattle.bytes_at.specs.First.{firstBelow};
-ghost use Rattle.bytes_at.specs.Stages.{_▷_, orNo};
-ghost use Rattle.column_desc.specs.ColumnDesc.{blank};
-ghost use Rattle.column_set.specs.ColumnSet.{noManager, noBinding};
+ghost use Prim.Native.Nat.{_<_};
+ghost use lib.Dec.{T};
+ghost use lib.ListN.{length};
 ghost use Rattle.table.specs.Table.{describedAs};
 ghost use Rattle.buckets.specs.Chain.{padded};
 ghost use Rattle.standard_text.specs.Header.{headerAt};
-ghost use Rattle.standard_text.specs.Index.{noSet};
 ghost use Rattle.standard_rules.specs.Rules.{textOf};
-ghost use Rattle.lookup_rules.specs.Questions.{
-  positionOf,
-  sequenceOf,
-  isColumn,
-  kindWith,
-  isStandard,
-  targetOf,
-  planFor,
-  samePlan,
-  isFresh,
-  isBelow,
-  isSeen,
-  stagesOf,
-  answerOf,
-  roomAfter,
-  verdictOf,
-  planOf,
-};
-ghost use Rattle.lookup.specs.Lookup.{settled};
-use column_desc::Column;
-use column_set::Binding;
-use column_set::Kind;
-use column_set::Manager;
+ghost use Rattle.lookup_rules.specs.Questions.{rowOf, asksCell, stagesOf, answerOf, roomAfter, verdictOf, planOf, placedOf, viewOf};
+ghost use Rattle.lookup.specs.Lookup.{settled, Findable, cellBit, answerWith};
+use lookup_rules::Answer;
+use lookup_rules::Placed;
 use lookup_rules::Plan;
 use lookup_rules::Planned;
 use lookup_rules::Question;
 use lookup_rules::Staged;
-use lookup_rules::Target;
 use lookup_rules::Verdict;
-use standard_rules::Checked;
-use standard_text::Set;
-use table::Description;
-
-// One stage more: after a refusal nothing counts.
-fn stage(refused: usize, ok: bool, number: usize) -> usize
-    ensures { λ r. ⌜ r ≡ refused ▷ orNo ok number ⌝ }
-{
-    if refused != 0 {
-        return refused;
-    }
-    if ok {
-        return 0;
-    }
-    number
-}
-
-// The column that a question asks for, 0 where it asks for none.
-fn position_of(q: Question) -> usize
-    ensures { λ r. ⌜ r ≡ positionOf q ⌝ }
-{
-    match q {
-        Question::Check(_) => 0,
-        Question::Prepare(position) => position,
-        Question::Place(_, position) => position,
-        Question::PlacePlanned(_, plan) => plan.position,
-        Question::View(_, position) => position,
-        Question::ViewPlanned(_, plan) => plan.position,
-    }
-}
-
-// The sequence number that a check is for; the other questions take the column's.
-fn sequence_of(q: Question, own: usize) -> usize
-    ensures { λ r. ⌜ r ≡ sequenceOf q own ⌝ }
-{
-    match q {
-        Question::Check(number) => number,
-        Question::Prepare(_) => own,
-        Question::Place(_, _) => own,
-        Question::PlacePlanned(_, _) => own,
-        Question::View(_, _) => own,
-        Question::ViewPlanned(_, _) => own,
-    }
-}
-
-// Whether the column exists; a check asks for none.
-fn is_column(q: Question, count: usize) -> bool
-    ensures { λ r. ⌜ r ≡ isColumn q count ⌝ }
-{
-    match q {
-        Question::Check(_) => true,
-        Question::Prepare(position) => position < count,
-        Question::Place(_, position) => position < count,
-        Question::PlacePlanned(_, plan) => plan.position < count,
-        Question::View(_, position) => position < count,
-        Question::ViewPlanned(_, plan) => plan.position < count,
-    }
-}
-
-// The element at a position; the blank past the end.
-fn column_at(columns: [Column; 64], position: usize) -> Column
-    ensures { λ r. ⌜ r ≡ getD columns position blank ⌝ }
-{
-    if position < 64 {
-        return columns[position];
-    }
-    column_desc::no_column()
-}
-
-fn binding_at(bindings: [Binding; 64], position: usize) -> Binding
-    ensures { λ r. ⌜ r ≡ getD bindings position noBinding ⌝ }
-{
-    if position < 64 {
-        return bindings[position];
-    }
-    column_set::no_binding()
-}
-
-fn manager_at(managers: [Manager; 16], i: usize) -> Manager
-    ensures { λ r. ⌜ r ≡ getD managers i noManager ⌝ }
-{
-    if i < 16 {
-        return managers[i];
-    }
-    column_set::no_manager()
-}
-
-fn set_at(sets: [Set; 16], i: usize) -> Set
-    ensures { λ r. ⌜ r ≡ getD sets i noSet ⌝ }
-{
-    if i < 16 {
-        return sets[i];
-    }
-    standard_text::no_set()
-}
-
-// The first of the managers with the sequence number, or their number.
-fn find_manager(managers: [Manager; 16], count: usize, sequence: usize) -> usize
-    requires { ⌜ count ≤ 16 ⌝ }
-    ensures { λ r. ⌜ r ≡ firstBelow (λ (k : ℕ). eqb (getD managers k noManager .number) sequence) count ⌝ }
-{
-    let mut i = 0;
-    while i < count {
-        let m = managers[i];
-        if m.number as usize == sequence {
-            return i;
-        }
-        i += 1;
-    }
-    i
-}
-
-// The kind of the first manager with the sequence number.
-fn kind_with(managers: [Manager; 16], count: usize, sequence: usize) -> Kind
-    requires { ⌜ count ≤ 16 ⌝ }
-    ensures { λ r. ⌜ r ≡ kindWith managers count sequence ⌝ }
-{
-    let i = find_manager(managers, count, sequence);
-    let m = manager_at(managers, i);
-    m.kind
-}
-
-fn is_standard(kind: Kind) -> bool
-    ensures { λ r. ⌜ r ≡ isStandard kind ⌝ }
-{
-    match kind {
-        Kind::Other => false,
-        Kind::Standard => true,
-        Kind::Incremental => false,
-    }
-}
-
-// The column and the manager; 8 where there is none.
-fn find_target(d: Description, q: Question) -> Target
-    requires { ⌜ d .«manager_count» ≤ 16 ⌝ }
-    ensures { λ r. ⌜ r ≡ targetOf d q ⌝ }
-{
-    let position = position_of(q);
-    let column = is_column(q, d.column_count);
-    let r1 = stage(d.refused, column, 8);
-    let bindings = d.bindings;
-    let b = binding_at(bindings, position);
-    let sequence = sequence_of(q, b.sequence as usize);
-    let managers = d.managers;
-    let kind = kind_with(managers, d.manager_count, sequence);
-    let known = is_standard(kind);
-    let r2 = stage(r1, known, 8);
-    Target {
-        refused: r2,
-        position: position,
-        sequence: sequence,
-    }
-}
-
-// What the table and the file say of a column's cells now.
-fn plan_for(d: Description, m: Checked, position: usize) -> Plan
-    ensures { λ r. ⌜ r ≡ planFor d m position ⌝ }
-{
-    let columns = d.columns;
-    let c = column_at(columns, position);
-    let bindings = d.bindings;
-    let b = binding_at(bindings, position);
-    let sets = m.sets;
-    let s = set_at(sets, b.set as usize);
-    let t = c.datatype;
-    Plan {
-        position: position,
-        sequence: b.sequence as usize,
-        datatype: t.number as usize,
-        elements: c.elements as usize,
-        bits: c.bits as usize,
-        set: b.set as usize,
-        offset: b.offset as usize,
-        per: s.per,
-        size: m.size,
-    }
-}
-
-fn both(a: bool, b: bool) -> bool
-    ensures { λ r. ⌜ r ≡ a && b ⌝ }
-{
-    if a {
-        return b;
-    }
-    false
-}
-
-// Whether two plans agree in every field.
-fn same_plan(a: Plan, b: Plan) -> bool
-    ensures { λ r. ⌜ r ≡ samePlan a b ⌝ }
-{
-    let r1 = both(a.position == b.position, a.sequence == b.sequence);
-    let r2 = both(r1, a.datatype == b.datatype);
-    let r3 = both(r2, a.elements == b.elements);
-    let r4 = both(r3, a.bits == b.bits);
-    let r5 = both(r4, a.set == b.set);
-    let r6 = both(r5, a.offset == b.offset);
-    let r7 = both(r6, a.per == b.per);
-    both(r7, a.size == b.size)
-}
-
-// Whether a plan that is handed in is the one that would be made now.
-fn fresh(q: Question, p: Plan) -> bool
-    ensures { λ r. ⌜ r ≡ isFresh q p ⌝ }
-{
-    match q {
-        Question::Check(_) => true,
-        Question::Prepare(_) => true,
-        Question::Place(_, _) => true,
-        Question::PlacePlanned(_, a) => same_plan(a, p),
-        Question::View(_, _) => true,
-        Question::ViewPlanned(_, a) => same_plan(a, p),
-    }
-}
-
-// Whether the row, where one is asked for, is below the row count.
-fn below(q: Question, rows: usize) -> bool
-    ensures { λ r. ⌜ r ≡ isBelow q rows ⌝ }
-{
-    match q {
-        Question::Check(_) => true,
-        Question::Prepare(_) => true,
-        Question::Place(row, _) => row < rows,
-        Question::PlacePlanned(row, _) => row < rows,
-        Question::View(row, _) => row < rows,
-        Question::ViewPlanned(row, _) => row < rows,
-    }
-}
-
-// Whether what is viewed is no Bool.
-fn seen(q: Question, datatype: usize) -> bool
-    ensures { λ r. ⌜ r ≡ isSeen q datatype ⌝ }
-{
-    match q {
-        Question::Check(_) => true,
-        Question::Prepare(_) => true,
-        Question::Place(_, _) => true,
-        Question::PlacePlanned(_, _) => true,
-        Question::View(_, _) => datatype != 0,
-        Question::ViewPlanned(_, _) => datatype != 0,
-    }
-}
 
 // All stages in their order. The room holds the index text where none refuses; where one does, it may hold anything.
 fn stages(table: &[u8], file: &[u8], q: Question, room: &mut [u8]) -> Staged
     ensures { λ r. ⌜ (r ≡ stagesOf (now (table .entry)) (now (file .entry)) q (length (now (room .entry)))) × (r .refused ≡ 0 → now (room .exit) ≡ padded (length (now (room .entry))) (textOf (now (file .entry)) (headerAt (now (file .entry)) (describedAs (now (table .entry)) .big)))) ⌝ }
+    ensures bounded { λ r. ⌜ (r .plan .offset < 4294967296) × (r .plan .bits < 4294967296) ⌝ }
 {
     let d = table::describe(table);
-    let g = find_target(d, q);
+    let g = lookup_parts::find_target(d, q);
     let m = standard::check(d, file, g.sequence, g.refused, room);
-    let p = plan_for(d, m, g.position);
-    let r1 = stage(m.refused, fresh(q, p), 12);
-    let r2 = stage(r1, below(q, d.rows), 9);
-    let r3 = stage(r2, seen(q, p.datatype), 14);
+    let p = lookup_parts::plan_for(d, m, g.position);
+    let sets = m.sets;
+    let s = lookup_parts::set_at(sets, p.set);
+    let fresh = lookup_parts::fresh(q, p);
+    let r1 = lookup_parts::stage(m.refused, fresh, 12);
+    let below = lookup_parts::below(q, d.rows);
+    let r2 = lookup_parts::stage(r1, below, 9);
+    let seen = lookup_parts::seen(q, p.datatype);
+    let r3 = lookup_parts::stage(r2, seen, 14);
     Staged {
         refused: r3,
         plan: p,
         sequence: g.sequence,
+        set: s,
     }
 }
 
@@ -313,21 +53,71 @@ fn settle(refused: usize, room: &mut [u8])
     }
 }
 
-// Every question, up to the place: the refusal, the plan and the manager's sequence number, and the room as it is left.
-pub fn ask_plan(table: &[u8], file: &[u8], q: Question, room: &mut [u8]) -> Staged
-    ensures { λ r. ⌜ (r ≡ stagesOf (now (table .entry)) (now (file .entry)) q (length (now (room .entry)))) × (now (room .exit) ≡ roomAfter (now (table .entry)) (now (file .entry)) q (length (now (room .entry)))) ⌝ }
+// The first bit of the cell that a question asks for, by the index text in the room; 0 where it asks for none or is refused.
+fn cell_bit(room: &[u8], s: Staged, q: Question) -> usize
+    requires { ⌜ (s .refused ≡ 0 → T (asksCell q) → Findable (now room) s (rowOf q)) ⌝ }
+    ensures { λ r. ⌜ r ≡ cellBit (now (room .entry)) s q ⌝ }
+{
+    let wanted = lookup_parts::asks_cell(q);
+    let row = lookup_parts::row_of(q);
+    if s.refused != 0 {
+        return 0;
+    }
+    if wanted {
+        let p = s.plan;
+        let set = s.set;
+        return standard_place::first_bit(room, set, p.size, p.offset, p.bits, row);
+    }
+    0
+}
+
+// "A refusal carries its number and zeros."
+fn answer(s: Staged, q: Question, first: usize) -> Answer
+    ensures { λ r. ⌜ r ≡ answerWith s q first ⌝ }
+{
+    let wanted = lookup_parts::asks_cell(q);
+    let refused = s.refused;
+    if refused != 0 {
+        return Answer {
+            refused: refused,
+            plan: lookup_parts::no_plan(),
+            first: 0,
+            count: 0,
+        };
+    }
+    let p = s.plan;
+    if wanted {
+        return Answer {
+            refused: 0,
+            plan: p,
+            first: first,
+            count: p.bits,
+        };
+    }
+    Answer {
+        refused: 0,
+        plan: p,
+        first: 0,
+        count: 0,
+    }
+}
+
+// Every question: the answer, and the room as it is left.
+pub fn ask(table: &[u8], file: &[u8], q: Question, room: &mut [u8]) -> Answer
+    ensures { λ r. ⌜ (r ≡ answerOf (now (table .entry)) (now (file .entry)) q (length (now (room .entry)))) × (now (room .exit) ≡ roomAfter (now (table .entry)) (now (file .entry)) q (length (now (room .entry)))) ⌝ }
 {
     let s = stages(table, file, q, room);
+    let first = cell_bit(room, s, q);
     settle(s.refused, room);
-    s
+    answer(s, q, first)
 }
 
 // File check.
 pub fn check(table: &[u8], file: &[u8], sequence: usize, room: &mut [u8]) -> Verdict
     ensures { λ r. ⌜ (r ≡ verdictOf (answerOf (now (table .entry)) (now (file .entry)) (Question.Check sequence) (length (now (room .entry))))) × (now (room .exit) ≡ roomAfter (now (table .entry)) (now (file .entry)) (Question.Check sequence) (length (now (room .entry)))) ⌝ }
 {
-    let s = ask_plan(table, file, Question::Check(sequence), room);
-    let refused = s.refused;
+    let a = ask(table, file, Question::Check(sequence), room);
+    let refused = a.refused;
     if refused == 0 {
         return Verdict::Accepted;
     }
@@ -338,11 +128,96 @@ pub fn check(table: &[u8], file: &[u8], sequence: usize, room: &mut [u8]) -> Ver
 pub fn make_plan(table: &[u8], file: &[u8], position: usize, room: &mut [u8]) -> Planned
     ensures { λ r. ⌜ (r ≡ planOf (answerOf (now (table .entry)) (now (file .entry)) (Question.Prepare position) (length (now (room .entry))))) × (now (room .exit) ≡ roomAfter (now (table .entry)) (now (file .entry)) (Question.Prepare position) (length (now (room .entry)))) ⌝ }
 {
-    let s = ask_plan(table, file, Question::Prepare(position), room);
-    let refused = s.refused;
+    let a = ask(table, file, Question::Prepare(position), room);
+    let refused = a.refused;
     if refused == 0 {
-        let p = s.plan;
+        let p = a.plan;
         return Planned::Ready(p);
     }
     Planned::Refused(refused)
+}
+
+fn placed(a: Answer) -> Placed
+    ensures { λ r. ⌜ r ≡ placedOf a ⌝ }
+{
+    let refused = a.refused;
+    if refused == 0 {
+        return Placed::At {
+            first: a.first,
+            count: a.count,
+        };
+    }
+    Placed::Refused(refused)
+}
+
+// Place of a row and a column position.
+pub fn place(table: &[u8], file: &[u8], row: usize, position: usize, room: &mut [u8]) -> Placed
+    ensures { λ r. ⌜ (r ≡ placedOf (answerOf (now (table .entry)) (now (file .entry)) (Question.Place row position) (length (now (room .entry))))) × (now (room .exit) ≡ roomAfter (now (table .entry)) (now (file .entry)) (Question.Place row position) (length (now (room .entry)))) ⌝ }
+{
+    let a = ask(table, file, Question::Place(row, position), room);
+    placed(a)
+}
+
+// Place of a row by a prepared plan.
+pub fn place_planned(table: &[u8], file: &[u8], row: usize, plan: Plan, room: &mut [u8]) -> Placed
+    ensures { λ r. ⌜ (r ≡ placedOf (answerOf (now (table .entry)) (now (file .entry)) (Question.PlacePlanned row plan) (length (now (room .entry))))) × (now (room .exit) ≡ roomAfter (now (table .entry)) (now (file .entry)) (Question.PlacePlanned row plan) (length (now (room .entry)))) ⌝ }
+{
+    let a = ask(table, file, Question::PlacePlanned(row, plan), room);
+    placed(a)
+}
+
+// View of a row and a column position: the part of the file that holds the cell, the empty part where it is refused.
+pub fn view<'f>(
+    table: &[u8],
+    file: &'f [u8],
+    row: usize,
+    position: usize,
+    room: &mut [u8],
+) -> &'f [u8]
+    ensures { λ r. ⌜ (now r ≡ viewOf (now (file .entry)) (answerOf (now (table .entry)) (now (file .entry)) (Question.View row position) (length (now (room .entry))))) × (now (room .exit) ≡ roomAfter (now (table .entry)) (now (file .entry)) (Question.View row position) (length (now (room .entry)))) ⌝ }
+{
+    let a = ask(table, file, Question::View(row, position), room);
+    bytes_at::part(file, a.first / 8, a.count / 8)
+}
+
+// Why that view is refused; 0 where it is not.
+pub fn view_refusal(
+    table: &[u8],
+    file: &[u8],
+    row: usize,
+    position: usize,
+    room: &mut [u8],
+) -> usize
+    ensures { λ r. ⌜ (r ≡ answerOf (now (table .entry)) (now (file .entry)) (Question.View row position) (length (now (room .entry))) .refused) × (now (room .exit) ≡ roomAfter (now (table .entry)) (now (file .entry)) (Question.View row position) (length (now (room .entry)))) ⌝ }
+{
+    let a = ask(table, file, Question::View(row, position), room);
+    a.refused
+}
+
+// View of a row by a prepared plan.
+pub fn view_planned<'f>(
+    table: &[u8],
+    file: &'f [u8],
+    row: usize,
+    plan: Plan,
+    room: &mut [u8],
+) -> &'f [u8]
+    ensures { λ r. ⌜ (now r ≡ viewOf (now (file .entry)) (answerOf (now (table .entry)) (now (file .entry)) (Question.ViewPlanned row plan) (length (now (room .entry))))) × (now (room .exit) ≡ roomAfter (now (table .entry)) (now (file .entry)) (Question.ViewPlanned row plan) (length (now (room .entry)))) ⌝ }
+{
+    let a = ask(table, file, Question::ViewPlanned(row, plan), room);
+    bytes_at::part(file, a.first / 8, a.count / 8)
+}
+
+// Why that view is refused; 0 where it is not.
+pub fn view_planned_refusal(
+    table: &[u8],
+    file: &[u8],
+    row: usize,
+    plan: Plan,
+    room: &mut [u8],
+) -> usize
+    ensures { λ r. ⌜ (r ≡ answerOf (now (table .entry)) (now (file .entry)) (Question.ViewPlanned row plan) (length (now (room .entry))) .refused) × (now (room .exit) ≡ roomAfter (now (table .entry)) (now (file .entry)) (Question.ViewPlanned row plan) (length (now (room .entry)))) ⌝ }
+{
+    let a = ask(table, file, Question::ViewPlanned(row, plan), room);
+    a.refused
 }

@@ -4,7 +4,7 @@ use mathlib.Core.Path.{_≡_, refl, sym, _∙_}
 use mathlib.Core.List.{List}
 use Prim.Native.Nat.{ℕ}
 use native.Mathlib.Decide.{ℕ-discrete}
-use lib.ListN.{replicate}
+use lib.ListN.{replicate, getD}
 use lib.Dec.{T}
 use borrow.Author.Tests.{eq-eqb, ne-eqb}
 use Rattle.bytes_at.specs.Steps.{_>>=_}
@@ -13,10 +13,12 @@ use Rattle.table.specs.declared.Description.{Description}
 use Rattle.table.specs.Table.{describedAs}
 use Rattle.cell_map.specs.Map.{Map, Bits, placeOf}
 use Rattle.cell_map.specs.Fits.{fits}
+use Rattle.standard_text.specs.Index.{noSet}
+use Rattle.standard_rules.specs.declared.Checked.{Checked}
 use Rattle.standard_rules.specs.Rules.{mapOf, refusalOf, checkedAs}
 use Rattle.lookup_rules.specs.declared.Question.{Question}
 use Rattle.lookup_rules.specs.declared.Staged.{Staged}
-use Rattle.lookup_rules.specs.Questions.{positionOf, sequenceOf, rowOf, isColumn, isBelow, bindingAt, targetOf, stagesOf, bitsFor, answered, answerOf, roomAfter}
+use Rattle.lookup_rules.specs.Questions.{positionOf, sequenceOf, rowOf, isColumn, isBelow, bindingAt, targetOf, planFor, stagesOf, bitsFor, answered, answerOf, roomAfter}
 
 -- ---- the answer
 answered-first : (s : Staged) (b : Bits) → answered s b .refused ≡ s .refused
@@ -40,7 +42,7 @@ check-passed d sequence f refused l = elim (ℕ-discrete (refusalOf d sequence f
   | no n ↦ rw (ne-eqb (refusalOf d sequence f refused l) 0 n)
 ]
 
-target-passed : (d : Description) (sequence : ℕ) (f : List ℕ) (refused l : ℕ) → refusalOf d sequence f refused l ≡ 0 → refused ≡ 0
+pub target-passed : (d : Description) (sequence : ℕ) (f : List ℕ) (refused l : ℕ) → refusalOf d sequence f refused l ≡ 0 → refused ≡ 0
 unfolding refusalOf
 target-passed d sequence f refused l h = then-left _ _ h
 
@@ -50,7 +52,7 @@ map-fits d sequence f refused l h = or-passed (fits (mapOf d sequence f)) 10 (se
 
 -- ---- the stages of a question
 module _ (d : Description) (q : Question) where
-  target-column : targetOf d q .refused ≡ 0 → T (isColumn q (d .«column_count»))
+  pub target-column : targetOf d q .refused ≡ 0 → T (isColumn q (d .«column_count»))
   unfolding targetOf _>>=_
   target-column h = or-passed _ 7 (then-right (d .refused) _ (then-left _ _ h))
 
@@ -59,18 +61,30 @@ module _ (d : Description) (q : Question) where
   target-sequence = refl
 
 module _ (t f : List ℕ) (q : Question) (l : ℕ) where
-  check-of : stagesOf t f q l .refused ≡ 0
+  pub check-of : stagesOf t f q l .refused ≡ 0
       → refusalOf (describedAs t) (targetOf (describedAs t) q .sequence) f (targetOf (describedAs t) q .refused) l ≡ 0
   unfolding stagesOf _>>=_
   check-of h = sym (check-passed _ _ f _ l) ∙ then-left _ _ (then-left _ _ (then-left _ _ h))
 
-  row-passed : stagesOf t f q l .refused ≡ 0 → T (isBelow q (describedAs t .rows))
+  pub row-passed : stagesOf t f q l .refused ≡ 0 → T (isBelow q (describedAs t .rows))
   unfolding stagesOf _>>=_
   row-passed h = or-passed _ 8 (then-right _ _ (then-left _ _ h))
 
-  stages-sequence : stagesOf t f q l .sequence ≡ sequenceOf q (bindingAt (describedAs t) (positionOf q) .sequence)
+  pub stages-sequence : stagesOf t f q l .sequence ≡ sequenceOf q (bindingAt (describedAs t) (positionOf q) .sequence)
   unfolding stagesOf _>>=_
   stages-sequence = target-sequence (describedAs t) q
+
+  -- the check of the file that a question is about
+  abbrev pub checkedFor : Checked
+  checkedFor = checkedAs (describedAs t) (targetOf (describedAs t) q .sequence) f (targetOf (describedAs t) q .refused) l
+
+  pub stages-plan : stagesOf t f q l .plan ≡ planFor (describedAs t) checkedFor (positionOf q)
+  unfolding stagesOf targetOf _>>=_
+  stages-plan = refl
+
+  pub stages-set : stagesOf t f q l .set ≡ getD (checkedFor .sets) (bindingAt (describedAs t) (positionOf q) .set) noSet
+  unfolding stagesOf targetOf planFor _>>=_
+  stages-set = refl
 
 -- the map of the file that a question is about
 abbrev pub mapFor : List ℕ → List ℕ → Question → Map

@@ -53,6 +53,15 @@ positionOf (PlacePlanned row p) = p .position
 positionOf (View row c) = c
 positionOf (ViewPlanned row p) = p .position
 
+-- whether it asks for a cell; a check and a plan do not
+abbrev pub asksCell : Question → Bool
+asksCell (Check n) = false
+asksCell (Prepare c) = false
+asksCell (Place row c) = true
+asksCell (PlacePlanned row p) = true
+asksCell (View row c) = true
+asksCell (ViewPlanned row p) = true
+
 -- the sequence number that a check is for; the other questions take the column's
 abbrev pub sequenceOf : Question → ℕ → ℕ
 sequenceOf (Check n) own = n
@@ -163,13 +172,14 @@ stagesOf t f q l = do
   g ← targetOf d q
   m ← checkedAs d (g .sequence) f (g .refused) l
   p ← planFor d m (g .position)
+  s ← getD (m .sets) (p .set) noSet
   fresh ← isFresh q p
   r1 ← m .refused ▷ orNo fresh 12
   below ← isBelow q (d .rows)
   r2 ← r1 ▷ orNo below 9
   seen ← isSeen q (p .datatype)
   r3 ← r2 ▷ orNo seen 14
-  record { refused = r3; plan = p; sequence = g .sequence }
+  record { refused = r3; plan = p; sequence = g .sequence; set = s }
 
 -- the bits that a question asks for; a check and a plan ask for none
 abbrev pub bitsFor : Question → Bits → Bits

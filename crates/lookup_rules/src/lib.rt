@@ -1,6 +1,8 @@
 // The questions File check, Plan, Place and View (document 01, "The questions"), as definitions over the bytes of both files:
 // `specs/`. The code that answers them is in `lookup`.
 
+use standard_text::Set;
+
 // A prepared plan: nine numbers in document 01's order. `datatype` is the data type's number, `per` the rows per bucket.
 pub struct Plan {
     pub position: usize,
@@ -32,11 +34,13 @@ pub struct Target {
     pub sequence: usize,
 }
 
-// The refusal after all stages, the fresh plan, and the manager's sequence number.
+// The refusal after all stages, the fresh plan, the manager's sequence number, and where the column's set stands in the index
+// text.
 pub struct Staged {
     pub refused: usize,
     pub plan: Plan,
     pub sequence: usize,
+    pub set: Set,
 }
 
 // The number and zeros; or 0, the plan, and for a place or a view the first bit and the bit count.

@@ -1,0 +1,13 @@
+-- `lookup::place_planned` meets its contract.
+use borrow.Author.Needs.{needs}
+use Rattle.bytes_at.proofs.Stepped.{free}
+use mathlib.Core.Path.{ap, _∙_}
+use Rattle.lookup_rules.specs.Questions.{placedOf}
+use Rattle.lookup.proofs.place_planned.Statement.{statement}
+use Rattle.lookup.proofs.place_planned.Tie as tie
+
+returns : tie.Need-returns
+returns c = (c .placed .ensures ∙ ap placedOf (c .before .before .before .ask .ensures .0), c .before .before .before .ask .ensures .1)
+
+pub place-planned-spec : {M : Type 1} → statement M
+place-planned-spec = tie.close (tie.spec free free (λ c. search needs) returns)

@@ -1,0 +1,34 @@
+-- `lookup_parts::plan_for` meets its contract: its calls compose as the definition says.
+use native.Mathlib.Omega.{arith}
+use borrow.Author.Needs.{needs}
+use mathlib.Core.Path.{refl}
+use Rattle.bytes_at.proofs.Stepped.{via, free}
+use Rattle.lookup_rules.specs.Questions.{planFor}
+use Rattle.lookup_parts.proofs.plan_for.Statement.{statement}
+use Rattle.lookup_parts.proofs.plan_for.Tie as tie
+
+returns : tie.Need-returns
+unfolding planFor
+returns c = (
+  via _ (c .before .before .before .before .before .before .before .before .before .before .before .before .column-at .ensures)
+      (via _ (c .before .before .before .before .before .before .before .before .before .before .binding-at .ensures)
+      (via _ (c .before .before .before .before .before .before .before .set-at .ensures)
+      refl)),
+  (omega arith, omega arith),
+)
+
+pub plan-for-spec : {M : Type 1} → statement M
+plan-for-spec =
+    tie.close
+    (tie.spec
+    free
+    free
+    (λ c. search needs)
+    free
+    (λ c. search needs)
+    (λ c. search needs)
+    (λ c. search needs)
+    (λ c. search needs)
+    (λ c. search needs)
+    (λ c. search needs)
+    returns)

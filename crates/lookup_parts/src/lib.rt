@@ -1,0 +1,323 @@
+// The parts of a question over a table and a data file (document 01, "The questions"): the column and the manager that it is
+// about, the fresh plan, and whether a prepared plan, the row and a view pass.
+ghost use mathlib.Core.Path.{_≡_};
+ghost use mathlib.Core.Bool.{_&&_};
+ghost use Prim.Native.Nat.{ℕ, _≤_, _<_};
+ghost use lib.Dec.{eqb};
+ghost use lib.ListN.{getD};
+ghost use Rattle.bytes_at.specs.First.{firstBelow};
+ghost use Rattle.bytes_at.specs.Stages.{_▷_, orNo};
+ghost use Rattle.column_desc.specs.ColumnDesc.{blank};
+ghost use Rattle.column_set.specs.ColumnSet.{noManager, noBinding};
+ghost use Rattle.standard_text.specs.Index.{noSet};
+ghost use Rattle.lookup_rules.specs.Questions.{
+  rowOf,
+  positionOf,
+  sequenceOf,
+  asksCell,
+  isColumn,
+  kindWith,
+  isStandard,
+  targetOf,
+  planFor,
+  samePlan,
+  isFresh,
+  isBelow,
+  isSeen,
+  noPlan,
+};
+use column_desc::Column;
+use column_set::Binding;
+use column_set::Kind;
+use column_set::Manager;
+use lookup_rules::Plan;
+use lookup_rules::Question;
+use lookup_rules::Target;
+use standard_rules::Checked;
+use standard_text::Set;
+use table::Description;
+
+// One stage more: after a refusal nothing counts.
+pub fn stage(refused: usize, ok: bool, number: usize) -> usize
+    ensures { λ r. ⌜ r ≡ refused ▷ orNo ok number ⌝ }
+{
+    if refused != 0 {
+        return refused;
+    }
+    if ok {
+        return 0;
+    }
+    number
+}
+
+// The row that a question asks for, 0 where it asks for none.
+pub fn row_of(q: Question) -> usize
+    ensures { λ r. ⌜ r ≡ rowOf q ⌝ }
+{
+    match q {
+        Question::Check(_) => 0,
+        Question::Prepare(_) => 0,
+        Question::Place(row, _) => row,
+        Question::PlacePlanned(row, _) => row,
+        Question::View(row, _) => row,
+        Question::ViewPlanned(row, _) => row,
+    }
+}
+
+// Whether it asks for a cell; a check and a plan do not.
+pub fn asks_cell(q: Question) -> bool
+    ensures { λ r. ⌜ r ≡ asksCell q ⌝ }
+{
+    match q {
+        Question::Check(_) => false,
+        Question::Prepare(_) => false,
+        Question::Place(_, _) => true,
+        Question::PlacePlanned(_, _) => true,
+        Question::View(_, _) => true,
+        Question::ViewPlanned(_, _) => true,
+    }
+}
+
+// The column that a question asks for, 0 where it asks for none.
+pub fn position_of(q: Question) -> usize
+    ensures { λ r. ⌜ r ≡ positionOf q ⌝ }
+{
+    match q {
+        Question::Check(_) => 0,
+        Question::Prepare(position) => position,
+        Question::Place(_, position) => position,
+        Question::PlacePlanned(_, plan) => plan.position,
+        Question::View(_, position) => position,
+        Question::ViewPlanned(_, plan) => plan.position,
+    }
+}
+
+// The sequence number that a check is for; the other questions take the column's.
+pub fn sequence_of(q: Question, own: usize) -> usize
+    ensures { λ r. ⌜ r ≡ sequenceOf q own ⌝ }
+{
+    match q {
+        Question::Check(number) => number,
+        Question::Prepare(_) => own,
+        Question::Place(_, _) => own,
+        Question::PlacePlanned(_, _) => own,
+        Question::View(_, _) => own,
+        Question::ViewPlanned(_, _) => own,
+    }
+}
+
+// Whether the column exists; a check asks for none.
+pub fn is_column(q: Question, count: usize) -> bool
+    ensures { λ r. ⌜ r ≡ isColumn q count ⌝ }
+{
+    match q {
+        Question::Check(_) => true,
+        Question::Prepare(position) => position < count,
+        Question::Place(_, position) => position < count,
+        Question::PlacePlanned(_, plan) => plan.position < count,
+        Question::View(_, position) => position < count,
+        Question::ViewPlanned(_, plan) => plan.position < count,
+    }
+}
+
+// The element at a position; the blank past the end.
+pub fn column_at(columns: [Column; 64], position: usize) -> Column
+    ensures { λ r. ⌜ r ≡ getD columns position blank ⌝ }
+{
+    if position < 64 {
+        return columns[position];
+    }
+    column_desc::no_column()
+}
+
+pub fn binding_at(bindings: [Binding; 64], position: usize) -> Binding
+    ensures { λ r. ⌜ r ≡ getD bindings position noBinding ⌝ }
+{
+    if position < 64 {
+        return bindings[position];
+    }
+    column_set::no_binding()
+}
+
+pub fn manager_at(managers: [Manager; 16], i: usize) -> Manager
+    ensures { λ r. ⌜ r ≡ getD managers i noManager ⌝ }
+{
+    if i < 16 {
+        return managers[i];
+    }
+    column_set::no_manager()
+}
+
+pub fn set_at(sets: [Set; 16], i: usize) -> Set
+    ensures { λ r. ⌜ r ≡ getD sets i noSet ⌝ }
+{
+    if i < 16 {
+        return sets[i];
+    }
+    standard_text::no_set()
+}
+
+// The first of the managers with the sequence number, or their number.
+pub fn find_manager(managers: [Manager; 16], count: usize, sequence: usize) -> usize
+    requires { ⌜ count ≤ 16 ⌝ }
+    ensures { λ r. ⌜ r ≡ firstBelow (λ (k : ℕ). eqb (getD managers k noManager .number) sequence) count ⌝ }
+{
+    let mut i = 0;
+    while i < count {
+        let m = managers[i];
+        if m.number as usize == sequence {
+            return i;
+        }
+        i += 1;
+    }
+    i
+}
+
+// The kind of the first manager with the sequence number.
+pub fn kind_with(managers: [Manager; 16], count: usize, sequence: usize) -> Kind
+    requires { ⌜ count ≤ 16 ⌝ }
+    ensures { λ r. ⌜ r ≡ kindWith managers count sequence ⌝ }
+{
+    let i = find_manager(managers, count, sequence);
+    let m = manager_at(managers, i);
+    m.kind
+}
+
+pub fn is_standard(kind: Kind) -> bool
+    ensures { λ r. ⌜ r ≡ isStandard kind ⌝ }
+{
+    match kind {
+        Kind::Other => false,
+        Kind::Standard => true,
+        Kind::Incremental => false,
+    }
+}
+
+// The column and the manager; 8 where there is none.
+pub fn find_target(d: Description, q: Question) -> Target
+    requires { ⌜ d .«manager_count» ≤ 16 ⌝ }
+    ensures { λ r. ⌜ r ≡ targetOf d q ⌝ }
+{
+    let position = position_of(q);
+    let column = is_column(q, d.column_count);
+    let r1 = stage(d.refused, column, 8);
+    let bindings = d.bindings;
+    let b = binding_at(bindings, position);
+    let sequence = sequence_of(q, b.sequence as usize);
+    let managers = d.managers;
+    let kind = kind_with(managers, d.manager_count, sequence);
+    let known = is_standard(kind);
+    let r2 = stage(r1, known, 8);
+    Target {
+        refused: r2,
+        position: position,
+        sequence: sequence,
+    }
+}
+
+// What the table and the file say of a column's cells now.
+pub fn plan_for(d: Description, m: Checked, position: usize) -> Plan
+    ensures { λ r. ⌜ r ≡ planFor d m position ⌝ }
+    ensures bounded { λ r. ⌜ (r .offset < 4294967296) × (r .bits < 4294967296) ⌝ }
+{
+    let columns = d.columns;
+    let c = column_at(columns, position);
+    let bindings = d.bindings;
+    let b = binding_at(bindings, position);
+    let sets = m.sets;
+    let s = set_at(sets, b.set as usize);
+    let t = c.datatype;
+    Plan {
+        position: position,
+        sequence: b.sequence as usize,
+        datatype: t.number as usize,
+        elements: c.elements as usize,
+        bits: c.bits as usize,
+        set: b.set as usize,
+        offset: b.offset as usize,
+        per: s.per,
+        size: m.size,
+    }
+}
+
+fn both(a: bool, b: bool) -> bool
+    ensures { λ r. ⌜ r ≡ a && b ⌝ }
+{
+    if a {
+        return b;
+    }
+    false
+}
+
+// Whether two plans agree in every field.
+pub fn same_plan(a: Plan, b: Plan) -> bool
+    ensures { λ r. ⌜ r ≡ samePlan a b ⌝ }
+{
+    let r1 = both(a.position == b.position, a.sequence == b.sequence);
+    let r2 = both(r1, a.datatype == b.datatype);
+    let r3 = both(r2, a.elements == b.elements);
+    let r4 = both(r3, a.bits == b.bits);
+    let r5 = both(r4, a.set == b.set);
+    let r6 = both(r5, a.offset == b.offset);
+    let r7 = both(r6, a.per == b.per);
+    both(r7, a.size == b.size)
+}
+
+// Whether a plan that is handed in is the one that would be made now.
+pub fn fresh(q: Question, p: Plan) -> bool
+    ensures { λ r. ⌜ r ≡ isFresh q p ⌝ }
+{
+    match q {
+        Question::Check(_) => true,
+        Question::Prepare(_) => true,
+        Question::Place(_, _) => true,
+        Question::PlacePlanned(_, a) => same_plan(a, p),
+        Question::View(_, _) => true,
+        Question::ViewPlanned(_, a) => same_plan(a, p),
+    }
+}
+
+// Whether the row, where one is asked for, is below the row count.
+pub fn below(q: Question, rows: usize) -> bool
+    ensures { λ r. ⌜ r ≡ isBelow q rows ⌝ }
+{
+    match q {
+        Question::Check(_) => true,
+        Question::Prepare(_) => true,
+        Question::Place(row, _) => row < rows,
+        Question::PlacePlanned(row, _) => row < rows,
+        Question::View(row, _) => row < rows,
+        Question::ViewPlanned(row, _) => row < rows,
+    }
+}
+
+// Whether what is viewed is no Bool.
+pub fn seen(q: Question, datatype: usize) -> bool
+    ensures { λ r. ⌜ r ≡ isSeen q datatype ⌝ }
+{
+    match q {
+        Question::Check(_) => true,
+        Question::Prepare(_) => true,
+        Question::Place(_, _) => true,
+        Question::PlacePlanned(_, _) => true,
+        Question::View(_, _) => datatype != 0,
+        Question::ViewPlanned(_, _) => datatype != 0,
+    }
+}
+
+// The plan of a refusal: zeros.
+pub fn no_plan() -> Plan
+    ensures { λ r. ⌜ r ≡ noPlan ⌝ }
+{
+    Plan {
+        position: 0,
+        sequence: 0,
+        datatype: 0,
+        elements: 0,
+        bits: 0,
+        set: 0,
+        offset: 0,
+        per: 0,
+        size: 0,
+    }
+}
