@@ -3,9 +3,9 @@
 use mathlib.Core.Path.{_≡_, refl, sym, ap, _∙_}
 use mathlib.Core.Bool.{Bool, true, false}
 use mathlib.Core.List.{List}
-use Prim.Native.Nat.{ℕ, _/_}
+use Prim.Native.Nat.{ℕ}
 use native.Mathlib.Decide.{ℕ-discrete}
-use lib.ListN.{length, replicate, take, drop}
+use lib.ListN.{length, replicate}
 use borrow.Author.Tests.{eq-eqb, ne-eqb}
 use Rattle.bytes_at.specs.Stages.{_▷_, orNo}
 use Rattle.bytes_at.proofs.Stages.{then-left}
@@ -23,7 +23,7 @@ use Rattle.lookup_rules.specs.declared.Planned.the-variants.{Ready, Refused as 
 use Rattle.lookup_rules.specs.declared.Placed.{Placed}
 use Rattle.lookup_rules.specs.declared.Placed.the-variants.{At, Refused as NotPlaced}
 use Rattle.lookup_rules.specs.declared.Answer.{Answer}
-use Rattle.lookup_rules.specs.Questions.{stagesOf, roomAfter, verdictOf, planOf, placedOf, viewOf}
+use Rattle.lookup_rules.specs.Questions.{stagesOf, roomAfter, verdictOf, planOf, placedOf}
 use Rattle.lookup.specs.Lookup.{settled}
 
 -- the stages after the file's check
@@ -75,7 +75,3 @@ placed-at a z = rw (eq-eqb (a .refused) 0 z)
 pub not-placed : (a : Answer) → (a .refused ≡ 0 → ⊥) → NotPlaced (a .refused) ≡ placedOf a
 unfolding placedOf
 not-placed a n = rw (ne-eqb (a .refused) 0 n)
-
-pub view-is : (f : List ℕ) {a b : Answer} {v : List ℕ} → a ≡ b → v ≡ take (a .count / 8) (drop (a .first / 8) f) → v ≡ viewOf f b
-unfolding viewOf
-view-is f e h = rw (← e) h

@@ -166,6 +166,13 @@ pub fn place_planned(table: &[u8], file: &[u8], row: usize, plan: Plan, room: &m
     placed(a)
 }
 
+// The part of the file that an answer's bits fill; the empty part where it is refused.
+fn part_of(file: &[u8], a: Answer) -> &[u8]
+    ensures { λ r. ⌜ now r ≡ viewOf (now (file .entry)) a ⌝ }
+{
+    bytes_at::part(file, a.first / 8, a.count / 8)
+}
+
 // View of a row and a column position: the part of the file that holds the cell, the empty part where it is refused.
 pub fn view<'f>(
     table: &[u8],
@@ -177,7 +184,7 @@ pub fn view<'f>(
     ensures { λ r. ⌜ (now r ≡ viewOf (now (file .entry)) (answerOf (now (table .entry)) (now (file .entry)) (Question.View row position) (length (now (room .entry))))) × (now (room .exit) ≡ roomAfter (now (table .entry)) (now (file .entry)) (Question.View row position) (length (now (room .entry)))) ⌝ }
 {
     let a = ask(table, file, Question::View(row, position), room);
-    bytes_at::part(file, a.first / 8, a.count / 8)
+    part_of(file, a)
 }
 
 // Why that view is refused; 0 where it is not.
@@ -205,7 +212,7 @@ pub fn view_planned<'f>(
     ensures { λ r. ⌜ (now r ≡ viewOf (now (file .entry)) (answerOf (now (table .entry)) (now (file .entry)) (Question.ViewPlanned row plan) (length (now (room .entry))))) × (now (room .exit) ≡ roomAfter (now (table .entry)) (now (file .entry)) (Question.ViewPlanned row plan) (length (now (room .entry)))) ⌝ }
 {
     let a = ask(table, file, Question::ViewPlanned(row, plan), room);
-    bytes_at::part(file, a.first / 8, a.count / 8)
+    part_of(file, a)
 }
 
 // Why that view is refused; 0 where it is not.

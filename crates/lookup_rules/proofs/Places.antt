@@ -12,7 +12,9 @@ use Rattle.cell_map.proofs.Places.{every-two}
 use Rattle.standard_rules.specs.Rules.{mapOf}
 use Rattle.lookup_rules.specs.declared.Question.the-variants.{Place, PlacePlanned}
 use Rattle.lookup_rules.specs.Questions.{bindingAt, answerOf}
-use Rattle.lookup_rules.specs.Demand.{Asked, position, planned, question, columnOf, bitsOf, carries, Places}
+use Rattle.lookup_rules.specs.declared.Asked.{Asked}
+use Rattle.lookup_rules.specs.declared.Asked.the-variants.{Position, Planned}
+use Rattle.lookup_rules.specs.Demand.{question, columnOf, bitsOf, carries, Places}
 use Rattle.lookup_rules.proofs.Columns.{column-kept, map-rows}
 use Rattle.lookup_rules.proofs.Stages.{passed}
 
@@ -41,10 +43,10 @@ shown t f sequence row c b e known fit below same =
 -- by position and by plan alike
 placed : (t f : List ℕ) (sequence l row : ℕ) (a : Asked) → carries t a sequence → answerOf t f (question row a) l .refused ≡ 0
     → Placed t f sequence row (columnOf a) (bitsOf (answerOf t f (question row a) l))
-placed t f sequence l row (position c) e h =
+placed t f sequence l row (Position c) e h =
     let x = passed t f (Place row c) l h in
     shown t f sequence row c _ e (x .column) (x .map-fits) (x .row) (ap bitsOf (x .same))
-placed t f sequence l row (planned p) e h =
+placed t f sequence l row (Planned p) e h =
     let x = passed t f (PlacePlanned row p) l h in
     shown t f sequence row (p .position) _ e (x .column) (x .map-fits) (x .row) (ap bitsOf (x .same))
 

@@ -6,25 +6,21 @@ use Rattle.table.specs.Table.{describedAs}
 use Rattle.cell_map.specs.Map.{Bits}
 use Rattle.cell_map.specs.Demand.{Demand3}
 use Rattle.standard_rules.specs.Rules.{mapOf}
-use Rattle.lookup_rules.specs.declared.Plan.{Plan}
+use Rattle.lookup_rules.specs.declared.Asked.{Asked}
+use Rattle.lookup_rules.specs.declared.Asked.the-variants.{Position, Planned}
 use Rattle.lookup_rules.specs.declared.Question.{Question}
 use Rattle.lookup_rules.specs.declared.Question.the-variants.{Place, PlacePlanned}
 use Rattle.lookup_rules.specs.declared.Answer.{Answer}
 use Rattle.lookup_rules.specs.Questions.{bindingAt, answerOf}
 
--- how Place is asked
-pub data Asked : Type 0 where
-  position : ℕ → Asked
-  planned : Plan → Asked
-
 abbrev pub question : ℕ → Asked → Question
-question row (position c) = Place row c
-question row (planned p) = PlacePlanned row p
+question row (Position c) = Place row c
+question row (Planned p) = PlacePlanned row p
 
 -- "a plan's cell is in the plan's column"
 abbrev pub columnOf : Asked → ℕ
-columnOf (position c) = c
-columnOf (planned p) = p .position
+columnOf (Position c) = c
+columnOf (Planned p) = p .position
 
 abbrev pub bitsOf : Answer → Bits
 bitsOf a = record { first = a .first; count = a .count }

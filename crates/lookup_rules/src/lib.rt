@@ -27,6 +27,12 @@ pub enum Question {
     ViewPlanned(usize, Plan),
 }
 
+// How Place is asked for a row.
+pub enum Asked {
+    Position(usize),
+    Planned(Plan),
+}
+
 // The column and the manager that a question is about, and the refusal so far.
 pub struct Target {
     pub refused: usize,

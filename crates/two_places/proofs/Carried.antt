@@ -1,0 +1,59 @@
+-- Demand 3, carried from the definitions to what the functions answer.
+-- Assumes nothing.
+use mathlib.Core.Path.{_≡_, refl, sym, ap, _∙_}
+use mathlib.Core.List.{List}
+use Prim.Native.Nat.{ℕ}
+use native.Mathlib.Decide.{ℕ-discrete}
+use native.Mathlib.Omega.{arith}
+use borrow.Author.Tests.{eq-eqb, ne-eqb}
+use Rattle.cell_map.specs.Map.{Bits}
+use Rattle.lookup_rules.specs.declared.Asked.{Asked}
+use Rattle.lookup_rules.specs.declared.Answer.{Answer}
+use Rattle.lookup_rules.specs.declared.Placed.{Placed}
+use Rattle.lookup_rules.specs.declared.Placed.the-variants.{At, Refused}
+use Rattle.lookup_rules.specs.Questions.{answerOf, placedOf}
+use Rattle.lookup_rules.specs.Demand.{question, bitsOf}
+use Rattle.lookup_rules.proofs.Places.{places}
+use Rattle.two_places.specs.Demand.{Demanded}
+
+-- the numbers of a place
+abbrev isPlace : Placed → ℕ
+isPlace (At first count) = 1
+isPlace (Refused n) = 0
+
+abbrev firstOf : Placed → ℕ
+firstOf (At first count) = first
+firstOf (Refused n) = 0
+
+abbrev countOf : Placed → ℕ
+countOf (At first count) = count
+countOf (Refused n) = 0
+
+-- an answer that is a place
+module _ (a : Answer) (first count : ℕ) (h : placedOf a ≡ At first count) where
+  unrefused : a .refused ≡ 0
+  unfolding placedOf
+  unrefused = elim (ℕ-discrete (a .refused) 0) [
+    | yes e ↦ e
+    | no n ↦ absurd (refusal (rw (ne-eqb (a .refused) 0 n) at h))
+  ]
+    where
+      refusal : Refused (a .refused) ≡ At first count → ⊥
+      refusal e = let z : _≡_ {A = ℕ} 0 1 = ap isPlace e in omega arith
+
+  at-place : At (a .first) (a .count) ≡ At first count
+  unfolding placedOf
+  at-place = rw (eq-eqb (a .refused) 0 unrefused) at h
+
+  same-bits : bitsOf a ≡ record { first = first; count = count }
+  same-bits = rw (ap firstOf at-place, ap countOf at-place)
+
+pub carried : (t f : List ℕ) (l l′ row row′ : ℕ) (a a′ : Asked) {p p′ : Placed}
+    → p ≡ placedOf (answerOf t f (question row a) l)
+    → p′ ≡ placedOf (answerOf t f (question row′ a′) l′)
+    → Demanded t f row a p row′ a′ p′
+carried t f l l′ row row′ a a′ e e′ = record {
+  holds = λ sequence first count first′ count′ k k′ h h′.
+      rw (← (same-bits _ first count (sym e ∙ h)), ← (same-bits _ first′ count′ (sym e′ ∙ h′)))
+      (places t f sequence l l′ row row′ a a′ k k′ (unrefused _ first count (sym e ∙ h)) (unrefused _ first′ count′ (sym e′ ∙ h′)));
+}

@@ -1,0 +1,22 @@
+-- Demand 3 (document 01, "What graders settle"), of what Place answers.
+use Prim.Native.Nat.{ℕ}
+use mathlib.Core.Path.{_≡_}
+use mathlib.Core.List.{List}
+use Rattle.table.specs.Table.{describedAs}
+use Rattle.cell_map.specs.Demand.{Demand3}
+use Rattle.standard_rules.specs.Rules.{mapOf}
+use Rattle.lookup_rules.specs.declared.Asked.{Asked}
+use Rattle.lookup_rules.specs.declared.Placed.{Placed}
+use Rattle.lookup_rules.specs.declared.Placed.the-variants.{At}
+use Rattle.lookup_rules.specs.Demand.{columnOf, carries}
+
+-- where both are placed and both columns carry the sequence number
+pub record Demanded (t f : List ℕ) (row : ℕ) (a : Asked) (p : Placed) (row′ : ℕ) (a′ : Asked) (p′ : Placed) : Type 0 where
+  pub holds : (sequence first count first′ count′ : ℕ) → carries t a sequence → carries t a′ sequence → p ≡ At first count → p′ ≡ At first′ count′
+      → Demand3 (mapOf (describedAs t) sequence f)
+      (record { first = first; count = count })
+      (record { first = first′; count = count′ })
+      row
+      (columnOf a)
+      row′
+      (columnOf a′)

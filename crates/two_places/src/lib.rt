@@ -1,0 +1,45 @@
+// Demand 3 of what the functions answer: two places of one table and one data file, each asked by position or by plan and each
+// with its own index room.
+ghost use mathlib.Core.Path.{_≡_};
+ghost use lib.ListN.{length};
+ghost use Rattle.lookup_rules.specs.Questions.{answerOf, placedOf};
+ghost use Rattle.lookup_rules.specs.Demand.{question};
+ghost use Rattle.two_places.specs.Demand.{Demanded};
+use lookup_rules::Asked;
+use lookup_rules::Placed;
+
+pub struct Two {
+    pub one: Placed,
+    pub other: Placed,
+}
+
+// Place, as it is asked.
+pub fn place_by(table: &[u8], file: &[u8], row: usize, asked: Asked, room: &mut [u8]) -> Placed
+    ensures { λ r. ⌜ r ≡ placedOf (answerOf (now (table .entry)) (now (file .entry)) (question row asked) (length (now (room .entry)))) ⌝ }
+{
+    match asked {
+        Asked::Position(position) => lookup::place(table, file, row, position, room),
+        Asked::Planned(plan) => lookup::place_planned(table, file, row, plan, room),
+    }
+}
+
+// Wrong answers that the contract rules out: one place for two cells, and a place in a free bucket.
+pub fn two_places(
+    table: &[u8],
+    file: &[u8],
+    row: usize,
+    asked: Asked,
+    room: &mut [u8],
+    row2: usize,
+    asked2: Asked,
+    room2: &mut [u8],
+) -> Two
+    ensures { λ r. ⌜ Demanded (now (table .entry)) (now (file .entry)) row asked (r .one) row2 asked2 (r .other) ⌝ }
+{
+    let one = place_by(table, file, row, asked, room);
+    let other = place_by(table, file, row2, asked2, room2);
+    Two {
+        one: one,
+        other: other,
+    }
+}
