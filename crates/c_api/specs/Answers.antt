@@ -15,6 +15,7 @@ use Rattle.column_set.specs.ColumnSet.{noBinding, noManager}
 use Rattle.table.specs.declared.Description.{Description}
 use Rattle.table.specs.declared.Position.{Position}
 use Rattle.table.specs.declared.Position.the-variants.{At, Refused}
+use Rattle.lookup_rules.specs.declared.Plan.{Plan}
 
 -- the number given: 255 where `out` is too short for the values
 unfoldable pub orShort : List ℕ → List ℕ → ℕ → ℕ
@@ -23,6 +24,10 @@ orShort values out number = cond (ltb (length out) (length values)) 255 number
 -- `out` afterwards: the values written over its first numbers, or nothing written where it is too short
 unfoldable pub written : List ℕ → List ℕ → List ℕ
 written values out = cond (ltb (length out) (length values)) out (paste out 0 values (length values))
+
+-- the room afterwards: untouched where `out` is too short for n numbers
+unfoldable pub roomLeft : ℕ → List ℕ → List ℕ → List ℕ → List ℕ
+roomLeft n out before after = cond (ltb (length out) n) before after
 
 abbrev pub flagOf : Bool → ℕ
 flagOf true = 1
@@ -79,3 +84,8 @@ positionRefusal (Refused n) = n
 abbrev pub positionNumber : Position → ℕ
 positionNumber (At k) = k
 positionNumber (Refused n) = 0
+
+-- "position, sequence number, data type, element count, cell bits, set, offset, rows per bucket and bucket size"
+abbrev pub planNumbers : Plan → List ℕ
+planNumbers p =
+    p .position ∷ p .sequence ∷ p .datatype ∷ p .elements ∷ p .bits ∷ p .set ∷ p .offset ∷ p .per ∷ p .size ∷ []

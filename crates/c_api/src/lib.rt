@@ -1,13 +1,16 @@
 // The questions for C: numbers and lent slices, each a pointer and a length. A function gives 0, or the number of the
 // refusal, and writes its answer into `out`, zeros where it is refused. An `out` that is too short gives 255, and nothing
-// is written.
+// is written, the room included.
 ghost use mathlib.Core.Path.{_≡_};
 ghost use mathlib.Core.List.{[], _∷_};
 ghost use Prim.Native.Nat.{_≤_};
+ghost use lib.ListN.{length};
 ghost use Rattle.table.specs.Table.{describedAs, positionOf};
+ghost use Rattle.lookup_rules.specs.Questions.{answerOf, roomAfter};
 ghost use Rattle.c_api.specs.Answers.{
   orShort,
   written,
+  roomLeft,
   flagOf,
   kindNumber,
   summaryOf,
@@ -21,11 +24,13 @@ ghost use Rattle.c_api.specs.Answers.{
   positionRefusal,
   positionNumber,
   missing,
+  planNumbers,
 };
 use column_desc::Column;
 use column_set::Binding;
 use column_set::Kind;
 use column_set::Manager;
+use lookup_rules::Question;
 use table::Position;
 
 fn flag(b: bool) -> u64
@@ -205,4 +210,43 @@ pub extern "C" fn hv_column_by_name(table: &[u8], name: &[u8], out: &mut [u64]) 
     let refused = position_refusal(p);
     let values = [position_number(p)];
     answer(refused, &values, out)
+}
+
+// File check: the refusal alone.
+#[no_mangle]
+pub extern "C" fn hv_check(table: &[u8], file: &[u8], sequence: u64, room: &mut [u8]) -> u64
+    ensures { λ r. ⌜ (r ≡ answerOf (now (table .entry)) (now (file .entry)) (Question.Check sequence) (length (now (room .entry))) .refused) × (now (room .exit) ≡ roomAfter (now (table .entry)) (now (file .entry)) (Question.Check sequence) (length (now (room .entry)))) ⌝ }
+{
+    let a = lookup::ask(table, file, Question::Check(sequence as usize), room);
+    a.refused as u64
+}
+
+// Plan: nine numbers in its order.
+#[no_mangle]
+pub extern "C" fn hv_plan(
+    table: &[u8],
+    file: &[u8],
+    position: u64,
+    room: &mut [u8],
+    out: &mut [u64],
+) -> u64
+    ensures { λ r. ⌜ (r ≡ orShort (planNumbers (answerOf (now (table .entry)) (now (file .entry)) (Question.Prepare position) (length (now (room .entry))) .plan)) (now (out .entry)) (answerOf (now (table .entry)) (now (file .entry)) (Question.Prepare position) (length (now (room .entry))) .refused)) × (now (out .exit) ≡ written (planNumbers (answerOf (now (table .entry)) (now (file .entry)) (Question.Prepare position) (length (now (room .entry))) .plan)) (now (out .entry))) × (now (room .exit) ≡ roomLeft 9 (now (out .entry)) (now (room .entry)) (roomAfter (now (table .entry)) (now (file .entry)) (Question.Prepare position) (length (now (room .entry))))) ⌝ }
+{
+    if out.len() < 9 {
+        return 255;
+    }
+    let a = lookup::ask(table, file, Question::Prepare(position as usize), room);
+    let p = a.plan;
+    let values = [
+        p.position as u64,
+        p.sequence as u64,
+        p.datatype as u64,
+        p.elements as u64,
+        p.bits as u64,
+        p.set as u64,
+        p.offset as u64,
+        p.per as u64,
+        p.size as u64,
+    ];
+    answer(a.refused as u64, &values, out)
 }

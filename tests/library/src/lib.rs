@@ -1,5 +1,7 @@
 //! The proved library's C functions, each behind a safe function.
 
+pub mod fields;
+
 extern "C" {
     fn hv_description(table: *const u8, table_len: usize, out: *mut u64, out_len: usize) -> u64;
     fn hv_column(table: *const u8, table_len: usize, position: u64, out: *mut u64, out_len: usize) -> u64;
@@ -12,6 +14,26 @@ extern "C" {
         out: *mut u64,
         out_len: usize,
     ) -> u64;
+    fn hv_check(
+        table: *const u8,
+        table_len: usize,
+        file: *const u8,
+        file_len: usize,
+        sequence: u64,
+        room: *mut u8,
+        room_len: usize,
+    ) -> u64;
+    fn hv_plan(
+        table: *const u8,
+        table_len: usize,
+        file: *const u8,
+        file_len: usize,
+        position: u64,
+        room: *mut u8,
+        room_len: usize,
+        out: *mut u64,
+        out_len: usize,
+    ) -> u64;
 }
 
 /// Row count, byte order (1: big endian), number of columns, number of managers.
@@ -21,8 +43,10 @@ pub const DESCRIPTION: usize = 4;
 pub const COLUMN: usize = 11;
 /// Sequence number, kind (1 StandardStMan, 2 IncrementalStMan, 0 other), name start, name length.
 pub const MANAGER: usize = 4;
+/// Position, sequence number, data type, element count, cell bits, set, offset, rows per bucket, bucket size.
+pub const PLAN: usize = 9;
 
-fn answer<const N: usize>(ask: impl Fn(&mut [u64]) -> u64) -> Result<[u64; N], u64> {
+fn answer<const N: usize>(ask: impl FnOnce(&mut [u64]) -> u64) -> Result<[u64; N], u64> {
     let mut out = [0xA5A5_A5A5_A5A5_A5A5; N];
     match ask(&mut out) {
         0 => Ok(out),
@@ -52,23 +76,60 @@ pub fn column_by_name(table: &[u8], name: &[u8]) -> Result<u64, u64> {
     Ok(position[0])
 }
 
+/// File check, for a manager's sequence number.
+pub fn check(table: &[u8], file: &[u8], sequence: u64, room: &mut [u8]) -> Result<(), u64> {
+    let refused = unsafe {
+        hv_check(table.as_ptr(), table.len(), file.as_ptr(), file.len(), sequence, room.as_mut_ptr(), room.len())
+    };
+    if refused == 0 {
+        Ok(())
+    } else {
+        Err(refused)
+    }
+}
+
+pub fn plan(table: &[u8], file: &[u8], position: u64, room: &mut [u8]) -> Result<[u64; PLAN], u64> {
+    answer(|out| unsafe {
+        hv_plan(
+            table.as_ptr(),
+            table.len(),
+            file.as_ptr(),
+            file.len(),
+            position,
+            room.as_mut_ptr(),
+            room.len(),
+            out.as_mut_ptr(),
+            out.len(),
+        )
+    })
+}
+
 #[cfg(test)]
 mod tests {
     use super::*;
 
-    // An array that is too short gives 255, and nothing is written.
+    const NONE: *const u8 = std::ptr::NonNull::dangling().as_ptr();
+
+    // An array that is too short gives 255, and nothing is written, the room included.
     #[test]
     fn short_array() {
-        let mut out = [7; 3];
-        let refused = unsafe { hv_description(std::ptr::NonNull::dangling().as_ptr(), 0, out.as_mut_ptr(), out.len()) };
-        assert_eq!((refused, out), (255, [7; 3]));
+        let mut out = [7; 8];
+        let refused = unsafe { hv_description(NONE, 0, out.as_mut_ptr(), 3) };
+        assert_eq!((refused, out), (255, [7; 8]));
+        let mut room = [7; 5];
+        let refused = unsafe { hv_plan(NONE, 0, NONE, 0, 0, room.as_mut_ptr(), 5, out.as_mut_ptr(), 8) };
+        assert_eq!((refused, out, room), (255, [7; 8], [7; 5]));
     }
 
     #[test]
     fn empty_table() {
+        let mut room = [7; 5];
         assert_eq!(description(&[]), Err(1));
         assert_eq!(column(&[], 0), Err(1));
         assert_eq!(manager(&[], 0), Err(1));
         assert_eq!(column_by_name(&[], b"TIME"), Err(1));
+        assert_eq!((check(&[], &[], 0, &mut room), room), (Err(1), [0; 5]));
+        room = [7; 5];
+        assert_eq!((plan(&[], &[], 0, &mut room), room), (Err(1), [0; 5]));
     }
 }

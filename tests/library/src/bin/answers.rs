@@ -1,5 +1,6 @@
 //! Answers request lines with the proved library. The listing is what the proved program prints; HELVIDRANE_LISTING names it.
 
+use library::fields::{bytes, hex, number};
 use std::fmt::Write as _;
 use std::io::{self, BufRead, BufWriter, Write};
 use std::process::{Command, Stdio};
@@ -19,33 +20,12 @@ const NAMES: [(u64, &str); 12] = [
     (29, "Int64"),
 ];
 
-fn digit(c: u8) -> Option<u8> {
-    match c {
-        b'0'..=b'9' => Some(c - b'0'),
-        b'a'..=b'f' => Some(c - b'a' + 10),
-        _ => None,
-    }
-}
+/// The longest room that is lent, and what it is filled with before a question.
+const MAX_ROOM: u64 = 1_048_576;
+const ROOM_FILL: u8 = 0xA5;
 
-fn bytes(field: &str) -> Option<Vec<u8>> {
-    if field == "-" {
-        return Some(Vec::new());
-    }
-    let text = field.as_bytes();
-    if text.is_empty() || text.len() % 2 != 0 {
-        return None;
-    }
-    text.chunks(2).map(|pair| Some(digit(pair[0])? * 16 + digit(pair[1])?)).collect()
-}
-
-fn hex(part: &[u8]) -> String {
-    if part.is_empty() {
-        return "-".to_string();
-    }
-    part.iter().fold(String::with_capacity(part.len() * 2), |mut text, byte| {
-        let _ = write!(text, "{byte:02x}");
-        text
-    })
+fn lent(field: &str) -> Option<Vec<u8>> {
+    number(field).filter(|len| *len <= MAX_ROOM).map(|len| vec![ROOM_FILL; len as usize])
 }
 
 fn part(table: &[u8], start: u64, len: u64) -> &[u8] {
@@ -82,32 +62,68 @@ fn listing(program: &str, table: &[u8]) -> io::Result<Vec<u8>> {
     Ok(child.wait_with_output()?.stdout)
 }
 
-fn answer(program: &str, line: &str) -> io::Result<String> {
+/// The kind of the manager that a check accepted.
+fn kind(table: &[u8], sequence: u64) -> Result<&'static str, u64> {
+    let [_, _, _, managers] = library::description(table)?;
+    for index in 0..managers {
+        let m = library::manager(table, index)?;
+        if m[0] == sequence {
+            return Ok(if m[1] == 1 { "SSM" } else { "ISM" });
+        }
+    }
+    unreachable!("an accepted check is of a manager of the table")
+}
+
+fn check(table: &str, sequence: &str, file: &str, room: &str) -> Option<String> {
+    let (table, sequence, file, mut room) = (bytes(table)?, number(sequence)?, bytes(file)?, lent(room)?);
+    let answer = library::check(&table, &file, sequence, &mut room).and_then(|()| kind(&table, sequence));
+    Some(with_room(answer.map(str::to_string), &room))
+}
+
+fn plan(table: &str, file: &str, position: &str, room: &str) -> Option<String> {
+    let (table, file, position, mut room) = (bytes(table)?, bytes(file)?, number(position)?, lent(room)?);
+    let answer = library::plan(&table, &file, position, &mut room);
+    Some(with_room(answer.map(|plan| plan.map(|n| n.to_string()).join(",")), &room))
+}
+
+fn refused(number: u64) -> String {
+    format!("refused {number}")
+}
+
+/// An answer, then the whole room.
+fn with_room(answer: Result<String, u64>, room: &[u8]) -> String {
+    format!("{} {}", answer.map_or_else(refused, |text| format!("ok {text}")), hex(room))
+}
+
+/// None for a line that is no request.
+fn answer(program: &str, line: &str) -> io::Result<Option<String>> {
     let fields: Vec<&str> = line.split(' ').collect();
-    let told = match fields[..] {
-        ["describe", table] => bytes(table).map(|table| describe(&table)),
-        ["column", table, name] => match (bytes(table), bytes(name)) {
-            (Some(table), Some(name)) => Some(library::column_by_name(&table, &name).map(|k| format!("ok {k}"))),
-            _ => None,
-        },
+    Ok(match fields[..] {
+        ["describe", table] => bytes(table).map(|table| describe(&table).unwrap_or_else(refused)),
+        ["column", table, name] => bytes(table).zip(bytes(name)).map(|(table, name)| {
+            library::column_by_name(&table, &name).map_or_else(refused, |position| format!("ok {position}"))
+        }),
         ["listing", table] => match bytes(table) {
-            Some(table) => Some(Ok(hex(&listing(program, &table)?))),
+            Some(table) => Some(hex(&listing(program, &table)?)),
             None => None,
         },
+        ["check", table, sequence, file, room] => check(table, sequence, file, room),
+        ["plan", table, file, position, room] => plan(table, file, position, room),
         _ => None,
-    };
-    Ok(match told {
-        None => "bad request".to_string(),
-        Some(Ok(text)) => text,
-        Some(Err(refused)) => format!("refused {refused}"),
     })
 }
 
 fn main() -> io::Result<()> {
     let program = std::env::var("HELVIDRANE_LISTING").unwrap_or_else(|_| "target/bin/listing".to_string());
+    let mut input = io::stdin().lock();
     let mut out = BufWriter::new(io::stdout().lock());
-    for line in io::stdin().lock().lines() {
-        writeln!(out, "{}", answer(&program, &line?)?)?;
+    let mut line = Vec::new();
+    while input.read_until(b'\n', &mut line)? > 0 {
+        // A line that is not text is no request, as the empty line is.
+        let request = std::str::from_utf8(line.strip_suffix(b"\n").unwrap_or(&line)).unwrap_or_default();
+        let answer = answer(&program, request)?;
+        writeln!(out, "{}", answer.as_deref().unwrap_or("bad request"))?;
+        line.clear();
     }
     out.flush()
 }
