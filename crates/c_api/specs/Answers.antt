@@ -1,5 +1,5 @@
 -- What the functions for C give and write.
-use Prim.Native.Nat.{ℕ}
+use Prim.Native.Nat.{ℕ, _/_}
 use mathlib.Core.List.{List, [], _∷_}
 use mathlib.Core.Bool.{Bool, true, false, cond}
 use lib.ListN.{length, getD}
@@ -16,6 +16,7 @@ use Rattle.table.specs.declared.Description.{Description}
 use Rattle.table.specs.declared.Position.{Position}
 use Rattle.table.specs.declared.Position.the-variants.{At, Refused}
 use Rattle.lookup_rules.specs.declared.Plan.{Plan}
+use Rattle.lookup_rules.specs.declared.Answer.{Answer}
 
 -- the number given: 255 where `out` is too short for the values
 unfoldable pub orShort : List ℕ → List ℕ → ℕ → ℕ
@@ -89,3 +90,29 @@ positionNumber (Refused n) = 0
 abbrev pub planNumbers : Plan → List ℕ
 planNumbers p =
     p .position ∷ p .sequence ∷ p .datatype ∷ p .elements ∷ p .bits ∷ p .set ∷ p .offset ∷ p .per ∷ p .size ∷ []
+
+-- the plan of nine numbers in that order
+unfoldable pub planFrom : List ℕ → Plan
+planFrom s = record {
+  position = getD s 0 0;
+  sequence = getD s 1 0;
+  datatype = getD s 2 0;
+  elements = getD s 3 0;
+  bits = getD s 4 0;
+  set = getD s 5 0;
+  offset = getD s 6 0;
+  per = getD s 7 0;
+  size = getD s 8 0;
+}
+
+-- what is given for fewer than nine numbers, and for a plan
+unfoldable pub byPlan : {A : Type 0} → List ℕ → A → A → A
+byPlan plan short whole = cond (ltb (length plan) 9) short whole
+
+-- Place: "first bit and bit count, counted from the file's start"
+abbrev pub placeNumbers : Answer → List ℕ
+placeNumbers a = a .first ∷ a .count ∷ []
+
+-- View: the same part of the file in bytes, its start and its length
+abbrev pub viewNumbers : Answer → List ℕ
+viewNumbers a = a .first / 8 ∷ a .count / 8 ∷ []

@@ -1,6 +1,6 @@
 // The questions for C: numbers and lent slices, each a pointer and a length. A function gives 0, or the number of the
-// refusal, and writes its answer into `out`, zeros where it is refused. An `out` that is too short gives 255, and nothing
-// is written, the room included.
+// refusal, and writes its answer into `out`, zeros where it is refused. An `out` or a plan that is too short gives 255, and
+// nothing is written, the room included.
 ghost use mathlib.Core.Path.{_≡_};
 ghost use mathlib.Core.List.{[], _∷_};
 ghost use Prim.Native.Nat.{_≤_};
@@ -25,11 +25,16 @@ ghost use Rattle.c_api.specs.Answers.{
   positionNumber,
   missing,
   planNumbers,
+  planFrom,
+  byPlan,
+  placeNumbers,
+  viewNumbers,
 };
 use column_desc::Column;
 use column_set::Binding;
 use column_set::Kind;
 use column_set::Manager;
+use lookup_rules::Plan;
 use lookup_rules::Question;
 use table::Position;
 
@@ -249,4 +254,138 @@ pub extern "C" fn hv_plan(
         p.size as u64,
     ];
     answer(a.refused as u64, &values, out)
+}
+
+// A place: first bit and bit count.
+fn answer_place(table: &[u8], file: &[u8], q: Question, room: &mut [u8], out: &mut [u64]) -> u64
+    ensures { λ r. ⌜ (r ≡ orShort (placeNumbers (answerOf (now (table .entry)) (now (file .entry)) q (length (now (room .entry))))) (now (out .entry)) (answerOf (now (table .entry)) (now (file .entry)) q (length (now (room .entry))) .refused)) × (now (out .exit) ≡ written (placeNumbers (answerOf (now (table .entry)) (now (file .entry)) q (length (now (room .entry))))) (now (out .entry))) × (now (room .exit) ≡ roomLeft 2 (now (out .entry)) (now (room .entry)) (roomAfter (now (table .entry)) (now (file .entry)) q (length (now (room .entry))))) ⌝ }
+{
+    if out.len() < 2 {
+        return 255;
+    }
+    let a = lookup::ask(table, file, q, room);
+    let values = [a.first as u64, a.count as u64];
+    answer(a.refused as u64, &values, out)
+}
+
+// A view: the start and the length of the cell's part of the file, in bytes.
+fn answer_view(table: &[u8], file: &[u8], q: Question, room: &mut [u8], out: &mut [u64]) -> u64
+    ensures { λ r. ⌜ (r ≡ orShort (viewNumbers (answerOf (now (table .entry)) (now (file .entry)) q (length (now (room .entry))))) (now (out .entry)) (answerOf (now (table .entry)) (now (file .entry)) q (length (now (room .entry))) .refused)) × (now (out .exit) ≡ written (viewNumbers (answerOf (now (table .entry)) (now (file .entry)) q (length (now (room .entry))))) (now (out .entry))) × (now (room .exit) ≡ roomLeft 2 (now (out .entry)) (now (room .entry)) (roomAfter (now (table .entry)) (now (file .entry)) q (length (now (room .entry))))) ⌝ }
+{
+    if out.len() < 2 {
+        return 255;
+    }
+    let a = lookup::ask(table, file, q, room);
+    let values = [(a.first / 8) as u64, (a.count / 8) as u64];
+    answer(a.refused as u64, &values, out)
+}
+
+// The first nine numbers as a plan.
+fn plan_from(numbers: &[u64]) -> Plan
+    requires { ⌜ 9 ≤ length (now numbers) ⌝ }
+    ensures { λ r. ⌜ r ≡ planFrom (now (numbers .entry)) ⌝ }
+{
+    Plan {
+        position: numbers[0] as usize,
+        sequence: numbers[1] as usize,
+        datatype: numbers[2] as usize,
+        elements: numbers[3] as usize,
+        bits: numbers[4] as usize,
+        set: numbers[5] as usize,
+        offset: numbers[6] as usize,
+        per: numbers[7] as usize,
+        size: numbers[8] as usize,
+    }
+}
+
+// Place, of a row and a position: first bit and bit count, 2 numbers.
+#[no_mangle]
+pub extern "C" fn hv_place(
+    table: &[u8],
+    file: &[u8],
+    row: u64,
+    position: u64,
+    room: &mut [u8],
+    out: &mut [u64],
+) -> u64
+    ensures { λ r. ⌜ (r ≡ orShort (placeNumbers (answerOf (now (table .entry)) (now (file .entry)) (Question.Place row position) (length (now (room .entry))))) (now (out .entry)) (answerOf (now (table .entry)) (now (file .entry)) (Question.Place row position) (length (now (room .entry))) .refused)) × (now (out .exit) ≡ written (placeNumbers (answerOf (now (table .entry)) (now (file .entry)) (Question.Place row position) (length (now (room .entry))))) (now (out .entry))) × (now (room .exit) ≡ roomLeft 2 (now (out .entry)) (now (room .entry)) (roomAfter (now (table .entry)) (now (file .entry)) (Question.Place row position) (length (now (room .entry))))) ⌝ }
+{
+    answer_place(
+        table,
+        file,
+        Question::Place(row as usize, position as usize),
+        room,
+        out,
+    )
+}
+
+// The same for a prepared plan of nine numbers; 255, and nothing is written, where it has fewer.
+#[no_mangle]
+pub extern "C" fn hv_place_planned(
+    table: &[u8],
+    file: &[u8],
+    row: u64,
+    plan: &[u64],
+    room: &mut [u8],
+    out: &mut [u64],
+) -> u64
+    ensures { λ r. ⌜ (r ≡ byPlan (now (plan .entry)) 255 (orShort (placeNumbers (answerOf (now (table .entry)) (now (file .entry)) (Question.PlacePlanned row (planFrom (now (plan .entry)))) (length (now (room .entry))))) (now (out .entry)) (answerOf (now (table .entry)) (now (file .entry)) (Question.PlacePlanned row (planFrom (now (plan .entry)))) (length (now (room .entry))) .refused))) × (now (out .exit) ≡ byPlan (now (plan .entry)) (now (out .entry)) (written (placeNumbers (answerOf (now (table .entry)) (now (file .entry)) (Question.PlacePlanned row (planFrom (now (plan .entry)))) (length (now (room .entry))))) (now (out .entry)))) × (now (room .exit) ≡ byPlan (now (plan .entry)) (now (room .entry)) (roomLeft 2 (now (out .entry)) (now (room .entry)) (roomAfter (now (table .entry)) (now (file .entry)) (Question.PlacePlanned row (planFrom (now (plan .entry)))) (length (now (room .entry)))))) ⌝ }
+{
+    if plan.len() < 9 {
+        return 255;
+    }
+    let p = plan_from(plan);
+    answer_place(
+        table,
+        file,
+        Question::PlacePlanned(row as usize, p),
+        room,
+        out,
+    )
+}
+
+// View, of a row and a position: where the cell's part of the file starts and how long it is, in bytes, 2 numbers.
+#[no_mangle]
+pub extern "C" fn hv_view(
+    table: &[u8],
+    file: &[u8],
+    row: u64,
+    position: u64,
+    room: &mut [u8],
+    out: &mut [u64],
+) -> u64
+    ensures { λ r. ⌜ (r ≡ orShort (viewNumbers (answerOf (now (table .entry)) (now (file .entry)) (Question.View row position) (length (now (room .entry))))) (now (out .entry)) (answerOf (now (table .entry)) (now (file .entry)) (Question.View row position) (length (now (room .entry))) .refused)) × (now (out .exit) ≡ written (viewNumbers (answerOf (now (table .entry)) (now (file .entry)) (Question.View row position) (length (now (room .entry))))) (now (out .entry))) × (now (room .exit) ≡ roomLeft 2 (now (out .entry)) (now (room .entry)) (roomAfter (now (table .entry)) (now (file .entry)) (Question.View row position) (length (now (room .entry))))) ⌝ }
+{
+    answer_view(
+        table,
+        file,
+        Question::View(row as usize, position as usize),
+        room,
+        out,
+    )
+}
+
+// The same for a prepared plan of nine numbers; 255, and nothing is written, where it has fewer.
+#[no_mangle]
+pub extern "C" fn hv_view_planned(
+    table: &[u8],
+    file: &[u8],
+    row: u64,
+    plan: &[u64],
+    room: &mut [u8],
+    out: &mut [u64],
+) -> u64
+    ensures { λ r. ⌜ (r ≡ byPlan (now (plan .entry)) 255 (orShort (viewNumbers (answerOf (now (table .entry)) (now (file .entry)) (Question.ViewPlanned row (planFrom (now (plan .entry)))) (length (now (room .entry))))) (now (out .entry)) (answerOf (now (table .entry)) (now (file .entry)) (Question.ViewPlanned row (planFrom (now (plan .entry)))) (length (now (room .entry))) .refused))) × (now (out .exit) ≡ byPlan (now (plan .entry)) (now (out .entry)) (written (viewNumbers (answerOf (now (table .entry)) (now (file .entry)) (Question.ViewPlanned row (planFrom (now (plan .entry)))) (length (now (room .entry))))) (now (out .entry)))) × (now (room .exit) ≡ byPlan (now (plan .entry)) (now (room .entry)) (roomLeft 2 (now (out .entry)) (now (room .entry)) (roomAfter (now (table .entry)) (now (file .entry)) (Question.ViewPlanned row (planFrom (now (plan .entry)))) (length (now (room .entry)))))) ⌝ }
+{
+    if plan.len() < 9 {
+        return 255;
+    }
+    let p = plan_from(plan);
+    answer_view(
+        table,
+        file,
+        Question::ViewPlanned(row as usize, p),
+        room,
+        out,
+    )
 }

@@ -34,6 +34,56 @@ extern "C" {
         out: *mut u64,
         out_len: usize,
     ) -> u64;
+    fn hv_place(
+        table: *const u8,
+        table_len: usize,
+        file: *const u8,
+        file_len: usize,
+        row: u64,
+        position: u64,
+        room: *mut u8,
+        room_len: usize,
+        out: *mut u64,
+        out_len: usize,
+    ) -> u64;
+    fn hv_place_planned(
+        table: *const u8,
+        table_len: usize,
+        file: *const u8,
+        file_len: usize,
+        row: u64,
+        plan: *const u64,
+        plan_len: usize,
+        room: *mut u8,
+        room_len: usize,
+        out: *mut u64,
+        out_len: usize,
+    ) -> u64;
+    fn hv_view(
+        table: *const u8,
+        table_len: usize,
+        file: *const u8,
+        file_len: usize,
+        row: u64,
+        position: u64,
+        room: *mut u8,
+        room_len: usize,
+        out: *mut u64,
+        out_len: usize,
+    ) -> u64;
+    fn hv_view_planned(
+        table: *const u8,
+        table_len: usize,
+        file: *const u8,
+        file_len: usize,
+        row: u64,
+        plan: *const u64,
+        plan_len: usize,
+        room: *mut u8,
+        room_len: usize,
+        out: *mut u64,
+        out_len: usize,
+    ) -> u64;
 }
 
 /// Row count, byte order (1: big endian), number of columns, number of managers.
@@ -45,6 +95,8 @@ pub const COLUMN: usize = 11;
 pub const MANAGER: usize = 4;
 /// Position, sequence number, data type, element count, cell bits, set, offset, rows per bucket, bucket size.
 pub const PLAN: usize = 9;
+/// First bit and bit count; or start and length in bytes.
+pub const CELL: usize = 2;
 
 fn answer<const N: usize>(ask: impl FnOnce(&mut [u64]) -> u64) -> Result<[u64; N], u64> {
     let mut out = [0xA5A5_A5A5_A5A5_A5A5; N];
@@ -104,6 +156,92 @@ pub fn plan(table: &[u8], file: &[u8], position: u64, room: &mut [u8]) -> Result
     })
 }
 
+/// A cell's first bit and its bit count.
+pub fn place(table: &[u8], file: &[u8], row: u64, position: u64, room: &mut [u8]) -> Result<[u64; CELL], u64> {
+    answer(|out| unsafe {
+        hv_place(
+            table.as_ptr(),
+            table.len(),
+            file.as_ptr(),
+            file.len(),
+            row,
+            position,
+            room.as_mut_ptr(),
+            room.len(),
+            out.as_mut_ptr(),
+            out.len(),
+        )
+    })
+}
+
+/// The same for the plan's column.
+pub fn place_planned(
+    table: &[u8],
+    file: &[u8],
+    row: u64,
+    plan: &[u64; PLAN],
+    room: &mut [u8],
+) -> Result<[u64; CELL], u64> {
+    answer(|out| unsafe {
+        hv_place_planned(
+            table.as_ptr(),
+            table.len(),
+            file.as_ptr(),
+            file.len(),
+            row,
+            plan.as_ptr(),
+            plan.len(),
+            room.as_mut_ptr(),
+            room.len(),
+            out.as_mut_ptr(),
+            out.len(),
+        )
+    })
+}
+
+/// Where the part of the file that holds a cell starts, and its length in bytes.
+pub fn view(table: &[u8], file: &[u8], row: u64, position: u64, room: &mut [u8]) -> Result<[u64; CELL], u64> {
+    answer(|out| unsafe {
+        hv_view(
+            table.as_ptr(),
+            table.len(),
+            file.as_ptr(),
+            file.len(),
+            row,
+            position,
+            room.as_mut_ptr(),
+            room.len(),
+            out.as_mut_ptr(),
+            out.len(),
+        )
+    })
+}
+
+/// The same for the plan's column.
+pub fn view_planned(
+    table: &[u8],
+    file: &[u8],
+    row: u64,
+    plan: &[u64; PLAN],
+    room: &mut [u8],
+) -> Result<[u64; CELL], u64> {
+    answer(|out| unsafe {
+        hv_view_planned(
+            table.as_ptr(),
+            table.len(),
+            file.as_ptr(),
+            file.len(),
+            row,
+            plan.as_ptr(),
+            plan.len(),
+            room.as_mut_ptr(),
+            room.len(),
+            out.as_mut_ptr(),
+            out.len(),
+        )
+    })
+}
+
 #[cfg(test)]
 mod tests {
     use super::*;
@@ -113,12 +251,26 @@ mod tests {
     // An array that is too short gives 255, and nothing is written, the room included.
     #[test]
     fn short_array() {
-        let mut out = [7; 8];
-        let refused = unsafe { hv_description(NONE, 0, out.as_mut_ptr(), 3) };
-        assert_eq!((refused, out), (255, [7; 8]));
-        let mut room = [7; 5];
-        let refused = unsafe { hv_plan(NONE, 0, NONE, 0, 0, room.as_mut_ptr(), 5, out.as_mut_ptr(), 8) };
-        assert_eq!((refused, out, room), (255, [7; 8], [7; 5]));
+        let (mut out, mut room) = ([7; 8], [7; 5]);
+        let o = out.as_mut_ptr();
+        let r = room.as_mut_ptr();
+        let plan = [0; PLAN].as_ptr();
+        let refused = unsafe {
+            [
+                hv_description(NONE, 0, o, 3),
+                hv_column(NONE, 0, 0, o, 8),
+                hv_manager(NONE, 0, 0, o, 3),
+                hv_column_by_name(NONE, 0, NONE, 0, o, 0),
+                hv_plan(NONE, 0, NONE, 0, 0, r, 5, o, 8),
+                hv_place(NONE, 0, NONE, 0, 0, 0, r, 5, o, 1),
+                hv_place_planned(NONE, 0, NONE, 0, 0, plan, 9, r, 5, o, 1),
+                hv_place_planned(NONE, 0, NONE, 0, 0, plan, 8, r, 5, o, 2),
+                hv_view(NONE, 0, NONE, 0, 0, 0, r, 5, o, 1),
+                hv_view_planned(NONE, 0, NONE, 0, 0, plan, 9, r, 5, o, 1),
+                hv_view_planned(NONE, 0, NONE, 0, 0, plan, 8, r, 5, o, 2),
+            ]
+        };
+        assert_eq!((refused, out, room), ([255; 11], [7; 8], [7; 5]));
     }
 
     #[test]
@@ -131,5 +283,16 @@ mod tests {
         assert_eq!((check(&[], &[], 0, &mut room), room), (Err(1), [0; 5]));
         room = [7; 5];
         assert_eq!((plan(&[], &[], 0, &mut room), room), (Err(1), [0; 5]));
+        type Cell = fn(&mut [u8]) -> Result<[u64; CELL], u64>;
+        let cells: [Cell; 4] = [
+            |room| place(&[], &[], 0, 0, room),
+            |room| place_planned(&[], &[], 0, &[0; PLAN], room),
+            |room| view(&[], &[], 0, 0, room),
+            |room| view_planned(&[], &[], 0, &[0; PLAN], room),
+        ];
+        for cell in cells {
+            room = [7; 5];
+            assert_eq!((cell(&mut room), room), (Err(1), [0; 5]));
+        }
     }
 }

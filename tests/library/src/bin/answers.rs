@@ -1,6 +1,7 @@
 //! Answers request lines with the proved library. The listing is what the proved program prints; HELVIDRANE_LISTING names it.
 
 use library::fields::{bytes, hex, number};
+use library::{CELL, PLAN};
 use std::fmt::Write as _;
 use std::io::{self, BufRead, BufWriter, Write};
 use std::process::{Command, Stdio};
@@ -86,6 +87,22 @@ fn plan(table: &str, file: &str, position: &str, room: &str) -> Option<String> {
     Some(with_room(answer.map(|plan| plan.map(|n| n.to_string()).join(",")), &room))
 }
 
+/// Nine numbers.
+fn plan_of(field: &str) -> Option<[u64; PLAN]> {
+    field.split(',').map(number).collect::<Option<Vec<u64>>>()?.try_into().ok()
+}
+
+/// Place and View: the question about a row and a position or a plan.
+fn cell<T>(
+    [table, file, row, room]: [&str; 4],
+    of: Option<T>,
+    ask: fn(&[u8], &[u8], u64, T, &mut [u8]) -> Result<[u64; CELL], u64>,
+) -> Option<String> {
+    let (table, file, row, mut room) = (bytes(table)?, bytes(file)?, number(row)?, lent(room)?);
+    let answer = ask(&table, &file, row, of?, &mut room);
+    Some(with_room(answer.map(|[first, count]| format!("{first} {count}")), &room))
+}
+
 fn refused(number: u64) -> String {
     format!("refused {number}")
 }
@@ -109,6 +126,14 @@ fn answer(program: &str, line: &str) -> io::Result<Option<String>> {
         },
         ["check", table, sequence, file, room] => check(table, sequence, file, room),
         ["plan", table, file, position, room] => plan(table, file, position, room),
+        ["place", table, file, row, position, room] => cell([table, file, row, room], number(position), library::place),
+        ["placeplan", table, file, row, plan, room] => {
+            cell([table, file, row, room], plan_of(plan).as_ref(), library::place_planned)
+        }
+        ["view", table, file, row, position, room] => cell([table, file, row, room], number(position), library::view),
+        ["viewplan", table, file, row, plan, room] => {
+            cell([table, file, row, room], plan_of(plan).as_ref(), library::view_planned)
+        }
         _ => None,
     })
 }
