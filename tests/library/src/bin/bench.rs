@@ -1,12 +1,18 @@
 //! Times the proved library against the independent model: same inputs, one run, the best of many short rounds each. The
-//! rounds alternate, so that both see the same state of the machine.
+//! rounds alternate, so that both see the same state of the machine. Each lends one room, as long as the index text, over and
+//! over; it is not cleared in between.
 
 use std::hint::black_box;
 use std::time::{Duration, Instant};
+use writer::buckets::{BucketFile, Buckets, Subject};
+use writer::cells;
+use writer::lean;
+use writer::standard::{Index, StandardFile};
+use writer::table::{Column, Manager, BOOL, DOUBLE, FLOAT, INT, SHORT};
 
 const ROUNDS: usize = 300;
 
-fn round(mut work: impl FnMut(), calls: u32) -> Duration {
+fn round(work: &mut impl FnMut(), calls: u32) -> Duration {
     let start = Instant::now();
     for _ in 0..calls {
         work();
@@ -14,30 +20,115 @@ fn round(mut work: impl FnMut(), calls: u32) -> Duration {
     start.elapsed() / calls
 }
 
-fn compare(what: &str, table: &[u8], calls: u32) {
-    assert!(model::describe(table).is_ok() && library::description(table).is_ok(), "{what} is accepted");
+fn compare(what: &str, calls: u32, mut library: impl FnMut(), mut model: impl FnMut()) {
     let mut ours = Duration::MAX;
     let mut theirs = Duration::MAX;
     for _ in 0..ROUNDS {
-        ours = ours.min(round(|| _ = black_box(library::description(black_box(table))), calls));
-        theirs = theirs.min(round(|| _ = black_box(model::describe(black_box(table))), calls));
+        ours = ours.min(round(&mut library, calls));
+        theirs = theirs.min(round(&mut model, calls));
     }
     println!(
-        "{what:<44} {:>8.3} us {:>8.3} us  {:>5.2}",
+        "{what:<60} {:>9.3} us {:>9.3} us  {:>5.2}",
         ours.as_secs_f64() * 1e6,
         theirs.as_secs_f64() * 1e6,
         ours.as_secs_f64() / theirs.as_secs_f64()
     );
 }
 
+fn title(question: &str) {
+    println!("{question:<60} {:>12} {:>12}  {:>5}", "library", "model", "ratio");
+}
+
+fn description(what: &str, table: &[u8], calls: u32) {
+    assert!(model::describe(table).is_ok() && library::description(table).is_ok(), "{what} is accepted");
+    compare(
+        &format!("{what} ({} bytes)", table.len()),
+        calls,
+        || _ = black_box(library::description(black_box(table))),
+        || _ = black_box(model::describe(black_box(table))),
+    );
+}
+
+/// A table, its one file, and what is asked of them.
+struct Files {
+    what: &'static str,
+    table: Vec<u8>,
+    file: Vec<u8>,
+    room: usize,
+    rows: u64,
+    column: u64,
+    calls: u32,
+}
+
+impl Files {
+    fn new(what: &'static str, subject: &Subject<StandardFile>, column: u64, calls: u32) -> Self {
+        Self {
+            what,
+            table: subject.table.encode(),
+            file: subject.file.encode(),
+            room: subject.file.index_length(),
+            rows: subject.table.rows.into(),
+            column,
+            calls,
+        }
+    }
+
+    fn check(&self) {
+        let Self { table, file, .. } = self;
+        let (mut room, mut other) = (vec![0; self.room], vec![0; self.room]);
+        assert_eq!(library::check(table, file, 0, &mut room), Ok(()), "{} is accepted", self.what);
+        assert!(model::check(table, 0, file, &mut other).is_ok() && room == other);
+        compare(
+            self.what,
+            self.calls,
+            || _ = black_box(library::check(black_box(table), black_box(file), 0, &mut room)),
+            || _ = black_box(model::check(black_box(table), 0, black_box(file), &mut other)),
+        );
+    }
+
+    fn place(&self) {
+        let Self { table, file, column, rows, .. } = self;
+        let (mut room, mut other) = (vec![0; self.room], vec![0; self.room]);
+        for row in (0..*rows).step_by(1 + *rows as usize / 100) {
+            let placed = library::place(table, file, row, *column, &mut room);
+            let expected = model::place(table, file, row, *column, &mut other);
+            assert_eq!(placed.ok().map(|[first, count]| (first, count)), expected.ok(), "{} row {row}", self.what);
+        }
+        // Another row at each call, the same rows for both.
+        let rows_in_turn = || {
+            let mut row = 0;
+            move || {
+                row = (row + 7919) % rows;
+                row
+            }
+        };
+        let (mut ours, mut theirs) = (rows_in_turn(), rows_in_turn());
+        compare(
+            self.what,
+            self.calls,
+            || _ = black_box(library::place(black_box(table), black_box(file), ours(), *column, &mut room)),
+            || _ = black_box(model::place(black_box(table), black_box(file), theirs(), *column, &mut other)),
+        );
+    }
+}
+
 fn main() {
-    println!("{:<44} {:>11} {:>11}  {:>5}", "Description of", "library", "model", "ratio");
-    let small = std::fs::read("samples/small/table.dat").expect("samples/small/table.dat");
-    compare(&format!("the small table ({} bytes)", small.len()), &small, 2_000);
-    let arrays = std::fs::read("samples/arrays/table.dat").expect("samples/arrays/table.dat");
-    compare(&format!("the table with arrays ({} bytes)", arrays.len()), &arrays, 500);
-    let large = large_table();
-    compare(&format!("a table of 64 columns ({} bytes)", large.len()), &large, 100);
+    let read = |path: &str| std::fs::read(path).expect(path);
+    title("Description of");
+    description("the small table", &read("samples/small/table.dat"), 2_000);
+    description("the table with arrays", &read("samples/arrays/table.dat"), 500);
+    description("a table of 64 columns", &large_table(), 100);
+
+    let small = writer::samples::small_file();
+    let files = [
+        Files::new("the small file", &small, 2, 1_000),
+        Files::new("64 columns, 16 sets, 2,000 entries in an index chain", &many_sets(), 63, 20),
+        Files::new("6 columns, 1 set, 1,349 buckets of 32,768 bytes", &large_buckets(), 5, 20),
+    ];
+    title("File check of");
+    files.iter().for_each(Files::check);
+    title("Place in");
+    files.iter().for_each(Files::place);
 }
 
 /// The first accepted table of the writer's large ones that has 64 columns and is near 65,536 bytes.
@@ -52,4 +143,53 @@ fn large_table() -> Vec<u8> {
             (accepted.columns.len() == 64 && table.len() > 60_000 && table.len() <= 65_536).then_some(table)
         })
         .expect("a large accepted table")
+}
+
+/// Columns one after the other in the buckets of a set.
+fn placed(set: u32, columns: &[Column], rows_per_bucket: u32) -> Vec<Column> {
+    let mut offset = 0;
+    let mut place = |column: &Column| {
+        let placed = column.clone().at(set, offset as u32);
+        offset += cells::extent(column, rows_per_bucket);
+        placed
+    };
+    columns.iter().map(&mut place).collect()
+}
+
+/// Full buckets: so many rows in each of these.
+fn entries(rows_per_bucket: u32, buckets: impl Iterator<Item = u32>) -> Vec<(u32, u32)> {
+    buckets.enumerate().map(|(entry, bucket)| (rows_per_bucket * (entry as u32 + 1) - 1, bucket)).collect()
+}
+
+/// 125 buckets of 8 rows in each set; the sets take turns, and the index buckets follow.
+fn many_sets() -> Subject<StandardFile> {
+    const SETS: u32 = 16;
+    const ENTRIES: u32 = 125;
+    const PER: u32 = 8;
+    let kinds = [INT, BOOL, SHORT, DOUBLE].map(|kind| Column::scalar(kind, ""));
+    let columns = (0..SETS).flat_map(|set| placed(set, &kinds, PER)).collect();
+    let index = |set| Index::new(PER, kinds.len(), &entries(PER, (0..ENTRIES).map(|entry| entry * SETS + set)));
+    let buckets = Buckets::new("StandardStMan", 3, 1, 128, SETS * ENTRIES);
+    let file = StandardFile::new(buckets, Vec::new(), (0..SETS).map(index).collect());
+    let table = lean::bare(ENTRIES * PER, 1, columns, vec![Manager::new("StandardStMan", 0)]);
+    Subject { table, number: 0, file }
+}
+
+/// 1,348 data buckets of 740 rows, then the index bucket.
+fn large_buckets() -> Subject<StandardFile> {
+    const DATA: u32 = 1_348;
+    const PER: u32 = 740;
+    let kinds = [
+        Column::scalar(DOUBLE, ""),
+        Column::scalar(INT, ""),
+        Column::scalar(INT, ""),
+        Column::direct(DOUBLE, "", &[3]),
+        Column::scalar(BOOL, ""),
+        Column::scalar(FLOAT, ""),
+    ];
+    let index = Index::new(PER, kinds.len(), &entries(PER, 0..DATA));
+    let buckets = Buckets::new("StandardStMan", 3, 1, 32_768, DATA + 1);
+    let file = StandardFile::new(buckets, vec![DATA], vec![index]);
+    let table = lean::bare(DATA * PER, 1, placed(0, &kinds, PER), vec![Manager::new("StandardStMan", 0)]);
+    Subject { table, number: 0, file }
 }
