@@ -1,0 +1,16 @@
+-- `incremental_bucket::read_bucket` meets its contract: its calls compose as the definition says.
+use borrow.Author.Needs.{needs}
+use Rattle.bytes_at.proofs.Stepped.{via, free}
+use Rattle.incremental_bucket.specs.Bucket.{bucketAt}
+use Rattle.incremental_bucket.proofs.read_bucket.Statement.{statement}
+use Rattle.incremental_bucket.proofs.read_bucket.Tie as tie
+
+returns : tie.Need-returns
+unfolding bucketAt
+returns c =
+    via _ (c .before .before .order-of .ensures) (
+    via _ (c .before .read-data .ensures) (
+    c .read-columns .ensures))
+
+pub read-bucket-spec : {M : Type 1} → statement M
+read-bucket-spec = tie.close (tie.spec free (λ c. search needs) free (λ c κs. search needs) returns)

@@ -1,0 +1,72 @@
+-- `incremental_bucket::read_offsets` meets its contract. The loop's invariant: after i turns the state is the definition's after i turns.
+use Prim.Native.Nat.{_-_, _≤_}
+use mathlib.Core.Path.{_≡_, refl}
+use native.Mathlib.Omega.{arith}
+use borrow.Author.Needs.{needs}
+use borrow.Author.Tests.{not-true, not-false}
+use Rattle.bytes_at.specs.Loop.{after}
+use Rattle.bytes_at.proofs.Loops.{after-none, after-more}
+use Rattle.bytes_at.proofs.Stepped.{free}
+use Rattle.aipsio.specs.declared.Value.{Value}
+use Rattle.incremental_bucket.specs.Bucket.{offsetInto}
+use Rattle.incremental_bucket.proofs.Turns.{offset-short, offset-wrong, offset-on, offsets-none, offsets-stop, offsets-all}
+use Rattle.incremental_bucket.proofs.read_offsets.Statement.{statement}
+use Rattle.incremental_bucket.proofs.read_offsets.Tie as tie
+
+abbrev Inv-loop : tie.InvT-loop
+Inv-loop s n limit bytes hit end big refused at₀ left₀ offset₀ i₀ at left offset i =
+    (i ≤ n)
+    × (left ≡ end - at)
+    × (_≡_ {A = Value}
+    (record { value = offset; next = record { at = at; end = end; big = big; refused = 0 } })
+    (after (offsetInto s limit bytes hit) (record { value = 0; next = record { at = at₀; end = end; big = big; refused = 0 } }) i))
+
+abbrev μ-loop : tie.MeasureT-loop
+μ-loop s n limit bytes hit end big refused at₀ left₀ offset₀ i₀ at left offset i = n - i
+
+returns : tie.Need-returns Inv-loop μ-loop
+returns c = offsets-none _ _ _ _ _ _ (c .if1 .taken)
+
+loop-holds : tie.Need-loop-holds Inv-loop μ-loop
+loop-holds c = (omega arith, c .left .ensures, after-none _ _)
+
+returns-2 : tie.Need-returns-2 Inv-loop μ-loop
+returns-2 c =
+    offsets-stop _ _ _ _ _ _ (c .before .before .before .before .if1 .left) _ (c .before .before .loop .inv .2) (omega arith) (λ z. omega arith)
+    (offset-short _ _ _ _ _ _ refl (c .before .before .loop .inv .1) (omega arith))
+
+returns-3 : tie.Need-returns-3 Inv-loop μ-loop
+returns-3 c =
+    offsets-stop _ _ _ _ _ _ (c .before .before .before .before .before .before .before .if1 .left) _ (c .before .before .before .before .before .loop .inv .2) (omega arith) (λ z. omega arith)
+    (offset-wrong _ _ _ _ _ _ refl (c .before .before .before .before .before .loop .inv .1) (omega arith) (c .before .before .word .ensures .0) (c .before .lies-within .ensures) (not-true _ (c .if3 .taken)))
+
+loop-again : tie.Need-loop-again Inv-loop μ-loop
+loop-again c = (
+  omega arith,
+  omega (arith, c .before .before .before .before .before .before .loop .inv .1),
+  after-more _ _ _ (c .before .before .before .before .before .before .loop .inv .2)
+      (offset-on _ _ _ _ _ _ refl (c .before .before .before .before .before .before .loop .inv .1) (omega arith) (c .before .before .before .word .ensures .0) (c .before .before .lies-within .ensures) (not-false _ (c .before .if3 .left)) (c .choose .ensures)),
+)
+
+returns-4 : tie.Need-returns-4 Inv-loop μ-loop
+returns-4 c = offsets-all _ _ _ _ _ _ (c .before .before .before .if1 .left) _ (c .before .loop .inv .2) (omega arith) (omega arith)
+
+pub read-offsets-spec : {M : Type 1} → statement M
+read-offsets-spec =
+    tie.close
+    (tie.spec
+    Inv-loop
+    μ-loop
+    returns
+    free
+    loop-holds
+    returns-2
+    free
+    free
+    returns-3
+    free
+    (λ c. search needs)
+    (λ c. search needs)
+    (λ c. search needs)
+    loop-again
+    returns-4)

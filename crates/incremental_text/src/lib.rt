@@ -1,0 +1,165 @@
+// The header and the index object of an IncrementalStMan file (document 01, "IncrementalStMan"; Note 260, 3.4.3: Header, Bucket
+// Index).
+ghost use mathlib.Core.Path.{_≡_};
+ghost use Prim.Native.Nat.{_≤_, _<_};
+ghost use lib.ListN.{length};
+ghost use Rattle.standard_text.specs.Header.{headerRoom, sameEndian};
+ghost use Rattle.incremental_text.specs.Header.{fieldsAt, headed, headerAt, HeaderBounds, HeaderWords};
+ghost use Rattle.incremental_text.specs.Index.{indexed, indexAt, IndexInside};
+use aipsio::Cursor;
+use bytes_at::Width;
+
+// The numbers of a header; zeros and the number where it is refused.
+pub struct Header {
+    pub size: usize,
+    pub count: usize,
+    pub free_count: usize,
+    pub first_free: usize,
+    pub refused: usize,
+}
+
+// The header's fields, and the cursor past them.
+pub struct HeaderFields {
+    pub size: usize,
+    pub count: usize,
+    pub free_count: usize,
+    pub first_free: usize,
+    pub next: Cursor,
+}
+
+// The index of a file: the number of its entries, and where in the file its first rows, one more than entries, and its bucket
+// numbers start; zeros and the number where it is refused.
+pub struct Index {
+    pub count: usize,
+    pub firsts: usize,
+    pub buckets: usize,
+    pub refused: usize,
+}
+
+// Where the header's container ends: at 512, or with the file.
+fn header_room(len: usize) -> usize
+    ensures { λ r. ⌜ r ≡ headerRoom len ⌝ }
+{
+    if len <= 512 {
+        return len;
+    }
+    512
+}
+
+// Whether the header's Bool is the table's endianness.
+fn same_endian(flag: usize, big: bool) -> bool
+    ensures { λ r. ⌜ r ≡ sameEndian flag big ⌝ }
+{
+    if big {
+        return flag == 1;
+    }
+    flag == 0
+}
+
+// From the object's header to the first free bucket.
+fn read_fields(s: &[u8], c: Cursor, big: bool) -> HeaderFields
+    ensures { λ r. ⌜ r ≡ fieldsAt (now (s .entry)) c big ⌝ }
+    ensures words { λ r. ⌜ (r .«free_count» < 4294967296) × (r .«first_free» < 4294967296) ⌝ }
+{
+    let o = aipsio::open(s, c, b"IncrementalStMan", 5, 5);
+    let flag = aipsio::flag(s, o.next);
+    let same = same_endian(flag.value, big);
+    let d = aipsio::judge(flag.next, o.next.at, same, 6);
+    let size = aipsio::number(s, d, Width::Four, 16, 1048576);
+    let count = aipsio::number(s, size.next, Width::Four, 0, 4096);
+    let cache = aipsio::uint(s, count.next);
+    let unique = aipsio::uint(s, cache.next);
+    let free = aipsio::uint(s, unique.next);
+    let first = aipsio::uint(s, free.next);
+    let next = first.next;
+    HeaderFields {
+        size: size.value,
+        count: count.value,
+        free_count: free.value,
+        first_free: first.value,
+        next: next,
+    }
+}
+
+// The header, or zeros and the number where the cursor is refused.
+fn answer_header(c: Cursor, h: HeaderFields) -> Header
+    ensures { λ r. ⌜ r ≡ headed c h ⌝ }
+{
+    let refused = c.refused;
+    if refused != 0 {
+        return Header {
+            size: 0,
+            count: 0,
+            free_count: 0,
+            first_free: 0,
+            refused: refused,
+        };
+    }
+    Header {
+        size: h.size,
+        count: h.count,
+        free_count: h.free_count,
+        first_free: h.first_free,
+        refused: 0,
+    }
+}
+
+// The header of a file, in a table of the endianness given.
+pub fn read_header(f: &[u8], big: bool) -> Header
+    ensures { λ r. ⌜ r ≡ headerAt (now (f .entry)) big ⌝ }
+    ensures bounded { λ r. ⌜ HeaderBounds r ⌝ }
+    ensures words { λ r. ⌜ HeaderWords r ⌝ }
+{
+    let room = header_room(f.len());
+    let start = Cursor {
+        at: 0,
+        end: room,
+        big: 1,
+        refused: 0,
+    };
+    let m = aipsio::mark(f, start);
+    let h = read_fields(f, m, big);
+    let e = aipsio::close(h.next, m);
+    answer_header(e, h)
+}
+
+// The index, or zeros and the number where the cursor is refused.
+fn answer_index(c: Cursor, count: usize, firsts: usize, buckets: usize) -> Index
+    ensures { λ r. ⌜ r ≡ indexed c count firsts buckets ⌝ }
+{
+    let refused = c.refused;
+    if refused != 0 {
+        return Index {
+            count: 0,
+            firsts: 0,
+            buckets: 0,
+            refused: refused,
+        };
+    }
+    Index {
+        count: count,
+        firsts: firsts,
+        buckets: buckets,
+        refused: 0,
+    }
+}
+
+// The ISMIndex with its mark, from a place of the file on. Where it is not refused, both its lists lie in the file.
+pub fn read_index(f: &[u8], at: usize) -> Index
+    ensures { λ r. ⌜ r ≡ indexAt (now (f .entry)) at ⌝ }
+    ensures inside { λ r. ⌜ (r .refused ≡ 0 → IndexInside (length (now (f .entry))) 4 r) ⌝ }
+{
+    let start = Cursor {
+        at: at,
+        end: f.len(),
+        big: 1,
+        refused: 0,
+    };
+    let m = aipsio::mark(f, start);
+    let o = aipsio::open(f, m, b"ISMIndex", 1, 1);
+    let n = aipsio::uint(f, o.next);
+    let firsts = aipsio::block(f, n.next, n.value + 1, 4);
+    let buckets = aipsio::block(f, firsts.next, n.value, 4);
+    let e = aipsio::close(buckets.next, m);
+    answer_index(e, n.value, firsts.value, buckets.value)
+}
