@@ -1,2 +1,4 @@
 -- Laws that proofs of this crate and of those above it cite.
 pub mod Turns
+pub mod Bounds
+pub mod AnyCell

@@ -1,2 +1,3 @@
--- The definitions that the contracts cite.
+-- The definitions that the contracts and the laws cite.
 pub mod Bucket
+pub mod Value

@@ -253,6 +253,7 @@ pub fn read_bucket(
 ) -> Value
     requires { ⌜ (n ≤ 64) × (at ≤ 9007199254740992) × (size ≤ 1048576) ⌝ }
     ensures { λ r. ⌜ r ≡ bucketAt (now (f .entry)) at size big rows row column (now (bytes .entry)) n ⌝ }
+    ensures bounded { λ r. ⌜ r .value ≤ size ⌝ }
 {
     let order = order_of(big);
     let start = Cursor {

@@ -1,16 +1,21 @@
--- `incremental_bucket::read_bucket` meets its contract: its calls compose as the definition says.
+-- `incremental_bucket::read_bucket` meets its contract: its calls compose as the definition says, and the offset lies in the bucket.
 use borrow.Author.Needs.{needs}
+use denote.Ref.{now}
 use Rattle.bytes_at.proofs.Stepped.{via, free}
+use Rattle.aipsio.proofs.Bounds.{at-most}
 use Rattle.incremental_bucket.specs.Bucket.{bucketAt}
+use Rattle.incremental_bucket.proofs.Bounds.{bucket-le}
 use Rattle.incremental_bucket.proofs.read_bucket.Statement.{statement}
 use Rattle.incremental_bucket.proofs.read_bucket.Tie as tie
 
 returns : tie.Need-returns
 unfolding bucketAt
 returns c =
+    let a = c .before .before .before .before .args in
+    at-most (bucket-le (now (a .f)) (a .at) (a .size) (a .big) (a .rows) (a .row) (a .column) (now (a .bytes)) (a .n)) (
     via _ (c .before .before .order-of .ensures) (
     via _ (c .before .read-data .ensures) (
-    c .read-columns .ensures))
+    c .read-columns .ensures)))
 
 pub read-bucket-spec : {M : Type 1} → statement M
 read-bucket-spec = tie.close (tie.spec free (λ c. search needs) free (λ c κs. search needs) returns)

@@ -1,0 +1,61 @@
+-- The offset that a bucket gives lies in the bucket, also where it is refused.
+-- Assumes nothing.
+use mathlib.Core.Path.{_≡_, refl}
+use mathlib.Core.List.{List}
+use mathlib.Core.Bool.{Bool, true, false, cond, _&&_}
+use Prim.Native.Nat.{ℕ, zero, suc, _+_, _-_, _≤_, zero-le}
+use native.Mathlib.Omega.{arith}
+use lib.ListN.{getD}
+use lib.Dec.{leb, eqb}
+use borrow.Author.Tests.{leb-true}
+use Rattle.bytes_at.specs.Loop.{after}
+use Rattle.bytes_at.specs.Steps.{_>>=_}
+use Rattle.aipsio.specs.declared.Cursor.{Cursor}
+use Rattle.aipsio.specs.declared.Value.{Value}
+use Rattle.aipsio.specs.Field.{judged, uintAt}
+use Rattle.aipsio.proofs.Kept.{Clean, clean-before, skipped-keeps}
+use Rattle.aipsio.proofs.Accepted.{judged-passed, judged-within}
+use Rattle.aipsio.proofs.Bounds.{settled-le}
+use Rattle.incremental_bucket.specs.Bucket.{dataAt, startsAt, offsetInto, offsetsAt, columnAt, columnInto, columnsAt, bucketAt}
+
+-- one of two numbers
+pub cond-le : (t : Bool) {a b m r : ℕ} → a ≤ m → b ≤ m → r ≡ cond t a b → r ≤ m
+cond-le true p q e = omega arith
+cond-le false p q e = omega arith
+
+module _ (s : List ℕ) (limit : ℕ) where
+  offset-le : (bytes hit : ℕ) (st : Value) (i : ℕ) → st .value ≤ limit → offsetInto s limit bytes hit st i .value ≤ limit
+  unfolding offsetInto _>>=_
+  offset-le bytes hit st i h =
+      let v = uintAt s (st .next) in
+      settled-le _ _ (λ e.
+      let k : v .value + bytes ≤ limit = leb-true _ _ (judged-passed (v .next) (st .next .at) _ 10 e .1) in
+      cond-le (eqb i hit) {a = v .value} (omega arith) h refl)
+
+  offsets-le : (bytes hit : ℕ) (st : Value) (n : ℕ) → st .value ≤ limit → after (offsetInto s limit bytes hit) st n .value ≤ limit
+  unfolding after
+  offsets-le bytes hit st zero h = h
+  offsets-le bytes hit st (suc n) h = offset-le bytes hit _ n (offsets-le bytes hit st n h)
+
+  column-le : (c : Cursor) (rows row bytes : ℕ) → columnAt s c limit rows row bytes .value ≤ limit
+  unfolding columnAt offsetsAt _>>=_
+  column-le c rows row bytes = offsets-le bytes _ _ _ zero-le
+
+  columns-le : (rows row column : ℕ) (bytes : List ℕ) (st : Value) (n : ℕ) → st .value ≤ limit → after (columnInto s limit rows row column bytes) st n .value ≤ limit
+  unfolding after columnInto _>>=_
+  columns-le rows row column bytes st zero h = h
+  columns-le rows row column bytes st (suc n) h =
+      cond-le (eqb n column) (column-le _ rows row _) (columns-le rows row column bytes st n h) refl
+
+data-le : (s : List ℕ) (c : Cursor) (size : ℕ) → dataAt s c size .value ≤ size
+unfolding dataAt _>>=_
+data-le s c size =
+    settled-le _ _ (λ e. let k = judged-within _ _ (uintAt s c .value) 4 size 10 (clean-before (skipped-keeps _ _) e) in omega arith)
+
+pub bucket-le : (f : List ℕ) (at size : ℕ) (big : Bool) (rows row column : ℕ) (bytes : List ℕ) (n : ℕ) → bucketAt f at size big rows row column bytes n .value ≤ size
+unfolding bucketAt columnsAt _>>=_
+bucket-le f at size big rows row column bytes n =
+    let c : Cursor = record { at = at; end = at + size; big = cond big 1 0; refused = 0 } in
+    let l = data-le f c size in
+    let k = columns-le f (dataAt f c size .value) rows row column bytes (record { value = 0; next = dataAt f c size .next }) n zero-le in
+    omega arith

@@ -1,0 +1,82 @@
+-- What refuses a file is the same for every cell that is asked for.
+-- Assumes nothing.
+use mathlib.Core.Path.{_≡_, refl, sym, ap, _∙_}
+use mathlib.Core.List.{List}
+use mathlib.Core.Bool.{Bool, true, false, cond}
+use Prim.Native.Nat.{ℕ, zero, suc, _+_, _-_}
+use native.Mathlib.Decide.{ℕ-discrete}
+use lib.ListN.{getD}
+use lib.Dec.{eqb}
+use borrow.Author.Tests.{eq-eqb, ne-eqb}
+use Rattle.bytes_at.specs.Loop.{after}
+use Rattle.bytes_at.specs.Stages.{_▷_}
+use Rattle.bytes_at.specs.Steps.{_>>=_}
+use Rattle.aipsio.specs.declared.Cursor.{Cursor}
+use Rattle.column_desc.specs.declared.Column.{Column}
+use Rattle.column_set.specs.declared.Binding.{Binding}
+use Rattle.column_set.specs.ColumnSet.{noBinding}
+use Rattle.buckets.specs.Chain.{startOf}
+use Rattle.row_index.specs.Numbers.{numberIn}
+use Rattle.incremental_text.specs.declared.Index.{Index}
+use Rattle.incremental_bucket.specs.Bucket.{bucketAt}
+use Rattle.incremental_bucket.proofs.AnyCell.{any-cell}
+use Rattle.incremental_rules.specs.declared.Cells.{Cells}
+use Rattle.incremental_rules.specs.declared.Found.{Found}
+use Rattle.incremental_rules.specs.Rules.{cellInto, noCells, cellsIn, foundAs, bucketInto, nothing, searchOf}
+
+-- the same columns, whichever is asked for
+pub record SameCells (a b : Cells) : Type 0 where
+  pub bytes : a .bytes ≡ b .bytes
+  pub count : a .count ≡ b .count
+
+module _ (cs : List Column) (bs : List Binding) (sequence position position′ : ℕ) where
+  cell-same : (a b : Cells) (k : ℕ) → SameCells a b → SameCells (cellInto cs bs sequence position a k) (cellInto cs bs sequence position′ b k)
+  unfolding cellInto
+  cell-same a b k v =
+      elim (ℕ-discrete (getD bs k noBinding .sequence) sequence) [
+        | yes e ↦ rw (eq-eqb _ _ e) (record { bytes = rw (v .bytes, v .count); count = rw (v .count) })
+        | no e ↦ rw (ne-eqb _ _ e) v
+      ]
+
+  pub cells-same : (n : ℕ) → SameCells (cellsIn cs bs n sequence position) (cellsIn cs bs n sequence position′)
+  unfolding cellsIn after
+  cells-same zero = record { bytes = refl; count = refl }
+  cells-same (suc n) = cell-same _ _ n (cells-same n)
+
+-- a refusal is kept as it is
+found-refused : (refused start offset : ℕ) → foundAs refused start offset .refused ≡ refused
+unfolding foundAs
+found-refused refused start offset =
+    elim (ℕ-discrete refused 0) [
+      | yes e ↦ rw (eq-eqb refused 0 e) (sym e)
+      | no e ↦ rw (ne-eqb refused 0 e)
+    ]
+
+module _ (big : Bool) (f : List ℕ) (size : ℕ) (x : Index) where
+  -- what bucket i of the index is refused with
+  abbrev refusedIn : Cells → ℕ → ℕ → ℕ
+  refusedIn cells row i =
+      let first = numberIn true 4 f (x .firsts) i in
+      bucketAt f (startOf size (numberIn true 4 f (x .buckets) i)) size big (numberIn true 4 f (x .firsts) (i + 1) - first) (row - first) (cells .column) (cells .bytes) (cells .count) .next .refused
+
+  pub turn-refused : (cells : Cells) (row : ℕ) (found : Found) (i : ℕ) → bucketInto big f size x cells row found i .refused ≡ found .refused ▷ refusedIn cells row i
+  unfolding bucketInto _>>=_
+  turn-refused cells row found i = found-refused _ _ _
+
+  same-refused : (a b : Cells) (row row′ i : ℕ) → SameCells a b → refusedIn a row i ≡ refusedIn b row′ i
+  same-refused a b row row′ i v =
+      rw (v .bytes, v .count) (ap (λ (c : Cursor). c .refused) (any-cell f _ size big _ _ _ (a .column) (b .column) (b .bytes) (b .count)))
+
+  turns-same : (a b : Cells) (row row′ : ℕ) → SameCells a b → (n : ℕ)
+      → after (bucketInto big f size x a row) nothing n .refused ≡ after (bucketInto big f size x b row′) nothing n .refused
+  unfolding after
+  turns-same a b row row′ v zero = refl
+  turns-same a b row row′ v (suc n) =
+      turn-refused a row _ n
+      ∙ ap (λ (r : ℕ). r ▷ refusedIn a row n) (turns-same a b row row′ v n)
+      ∙ ap (λ (r : ℕ). after (bucketInto big f size x b row′) nothing n .refused ▷ r) (same-refused a b row row′ n v)
+      ∙ sym (turn-refused b row′ _ n)
+
+  pub search-same : (a b : Cells) (row row′ : ℕ) → SameCells a b → searchOf big f size x a row .refused ≡ searchOf big f size x b row′ .refused
+  unfolding searchOf
+  search-same a b row row′ v = turns-same a b row row′ v (x .count)
