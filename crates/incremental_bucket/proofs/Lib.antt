@@ -2,3 +2,5 @@
 pub mod Turns
 pub mod Bounds
 pub mod AnyCell
+pub mod Last
+pub mod Accepted

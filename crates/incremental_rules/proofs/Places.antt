@@ -1,0 +1,130 @@
+-- Of every accepted file, every row and every column of it that is no String: the place lies in the data part of the bucket that the
+-- index gives to the row, off the header, the free buckets and the ISMIndex; and it is where the check finds the cell.
+-- Assumes nothing.
+use mathlib.Core.Path.{_≡_, refl, sym, ap, _∙_}
+use mathlib.Core.List.{List}
+use mathlib.Core.Bool.{Bool, true, false, cond}
+use Prim.Native.Nat.{ℕ, _+_, _-_, _*_, _≤_, _<_}
+use native.Mathlib.Decide.{ℕ-discrete, decLt}
+use native.Mathlib.Omega.{arith}
+use lib.ListN.{length, getD}
+use lib.Dec.{T, eqb}
+use borrow.Author.Tests.{eq-eqb, ne-eqb}
+use Rattle.bytes_at.specs.Number.{uintOf}
+use Rattle.bytes_at.specs.Stages.{_▷_, orNo}
+use Rattle.bytes_at.proofs.Stages.{then-left, then-right, or-passed}
+use Rattle.column_desc.specs.ColumnDesc.{blank}
+use Rattle.column_set.specs.ColumnSet.{noBinding}
+use Rattle.table.specs.declared.Description.{Description}
+use Rattle.buckets.specs.Chain.{startOf, links}
+use Rattle.cell_map.specs.Map.{Bits}
+use Rattle.cell_map.specs.Fits.{ceil8}
+use Rattle.cell_map.specs.Demand.{Apart, Inside}
+use Rattle.cell_map.proofs.Places.{step}
+use Rattle.incremental_text.specs.declared.Header.{Header}
+use Rattle.incremental_text.specs.declared.Index.{Index}
+use Rattle.incremental_text.specs.Header.{headerAt}
+use Rattle.incremental_bucket.specs.Value.{partOf, offsetIn}
+use Rattle.incremental_bucket.proofs.Accepted.{InBucket, bucket-read}
+use Rattle.incremental_rules.specs.declared.Cells.{Cells}
+use Rattle.incremental_rules.specs.declared.Found.{Found}
+use Rattle.incremental_rules.specs.declared.Checked.{Checked}
+use Rattle.incremental_rules.specs.Rules.{indexFits, cellBytes, cellsOf, searchOf, indexOf, refusalOf, firstBit, checkedAs}
+use Rattle.incremental_rules.specs.Places.{firstRow, bucketNumber, entryOf, isBound, partAt, bitOf, bitsOf, placeOf, bucketBits, dataBits, indexBits, Safe, Kept, EveryPlace}
+use Rattle.incremental_rules.proofs.AnyCell.{cells-same, search-same}
+use Rattle.incremental_rules.proofs.Columns.{Asked, asked-is}
+use Rattle.incremental_rules.proofs.Search.{FoundIn, bucketIn, search-found}
+use Rattle.incremental_rules.proofs.Rows.{number-below, not-free, some-entry, from-first, entry-known, entry-from, entry-to}
+
+-- what no refusal says of the last two stages
+module _ (d : Description) (sequence : ℕ) (f : List ℕ) (refused : ℕ) (z : refusalOf d sequence f refused ≡ 0) where
+  abbrev header : Header
+  header = headerAt f (d .big)
+
+  abbrev index : Index
+  index = indexOf f header
+
+  fits-passed : T (indexFits (d .rows) f header index)
+  unfolding refusalOf
+  fits-passed = or-passed _ 10 (then-left _ _ (then-right _ _ (then-right _ _ (then-right _ _ (then-right _ _ (then-right _ _ z))))))
+
+  none-refused : searchOf (d .big) f (header .size) index (cellsOf d sequence 0) 0 .refused ≡ 0
+  unfolding refusalOf
+  none-refused = then-right _ _ (then-right _ _ (then-right _ _ (then-right _ _ (then-right _ _ (then-right _ _ z)))))
+
+  -- the cell that is asked for
+  module _ (few : d .«column_count» ≤ 64) (position row : ℕ) (known : position < d .«column_count») (bound : getD (d .bindings) position noBinding .sequence ≡ sequence) (l : row < d .rows) where
+    abbrev cells : Cells
+    cells = cellsOf d sequence position
+
+    abbrev found : Found
+    found = searchOf (d .big) f (header .size) index cells row
+
+    abbrev entry : ℕ
+    entry = entryOf f index row
+
+    abbrev start : ℕ
+    start = startOf (header .size) (bucketNumber f index entry)
+
+    abbrev offset : ℕ
+    offset = offsetIn (d .big) f (partAt (d .big) f (start + uintOf (d .big) 4 f start) (isBound d sequence) position) (row - firstRow f index entry)
+
+    asked : Asked (d .columns) (d .bindings) sequence position cells
+    asked = asked-is (d .columns) (d .bindings) sequence position (d .«column_count») few known bound
+
+    found-here : FoundIn (d .big) f (header .size) index cells row (index .count) entry found
+    found-here =
+        search-found (d .big) f (header .size) index cells row
+        (from-first (d .rows) f header index fits-passed row l)
+        (some-entry (d .rows) f header index fits-passed row l)
+        (search-same (d .big) f (header .size) index cells (cellsOf d sequence 0) row 0 (cells-same (d .columns) (d .bindings) sequence position 0 (d .«column_count»)) ∙ none-refused)
+
+    in-bucket : InBucket f start (header .size) (d .big) (row - firstRow f index entry) (cells .column) (cells .bytes) (cells .count) (bucketIn (d .big) f (header .size) index cells row entry .value)
+    in-bucket = bucket-read f start (header .size) (d .big) _ (row - firstRow f index entry) (cells .column) (cells .bytes) (cells .count) (found-here .clean)
+
+    offset-is : bucketIn (d .big) f (header .size) index cells row entry .value ≡ offset
+    offset-is =
+        in-bucket .value (asked .known)
+        ∙ ap (λ (p : ℕ). offsetIn (d .big) f p (row - firstRow f index entry)) (asked .part (d .big) f (start + uintOf (d .big) 4 f start))
+
+    -- the check finds the cell where its place is
+    pub found-there : firstBit found ≡ placeOf d sequence f position row .first
+    unfolding placeOf bitOf
+    found-there = rw (found-here .start, found-here .offset ∙ offset-is)
+
+    pub checked-there : checkedAs d sequence f refused position row .first ≡ placeOf d sequence f position row .first
+    unfolding checkedAs
+    checked-there = rw (z) found-there
+
+    offset-fits : offset + cellBytes (getD (d .columns) position blank) ≤ uintOf (d .big) 4 f start - 4
+    offset-fits = omega (arith, in-bucket .fits (asked .known), offset-is, asked .bytes)
+
+    module _ (no-string : getD (d .columns) position blank .datatype .number ≡ 11 → ⊥) where
+      bytes-are : cellBytes (getD (d .columns) position blank) ≡ ceil8 (getD (d .columns) position blank .bits)
+      bytes-are = rw (ne-eqb _ _ no-string)
+
+      off-bucket : (b : ℕ) → (bucketNumber f index entry ≡ b → ⊥) → Apart (placeOf d sequence f position row) (bucketBits header b)
+      unfolding placeOf bitOf
+      off-bucket b n i p q r s =
+          elim (decLt (bucketNumber f index entry) b) [
+            | yes g ↦ omega (arith, step (header .size) g, offset-fits, bytes-are, in-bucket .high, in-bucket .low)
+            | no g ↦ let g′ : b < bucketNumber f index entry = omega arith in omega (arith, step (header .size) g′)
+          ]
+
+      safe : Safe (d .big) f header index (placeOf d sequence f position row) row
+      unfolding placeOf bitOf
+      safe = record {
+        given = entry-known (d .rows) f header index fits-passed row l;
+        not-before = entry-from (d .rows) f header index fits-passed row l;
+        not-after = entry-to (d .rows) f header index fits-passed row l;
+        in-range = number-below (d .rows) f header index fits-passed entry (entry-known (d .rows) f header index fits-passed row l);
+        inside = (omega arith, omega (arith, offset-fits, bytes-are));
+        inside-bucket = (omega arith, omega (arith, in-bucket .high, in-bucket .low));
+        off-header = λ i p q r s. omega arith;
+        off-free = λ i k. off-bucket _ (not-free (d .rows) f header index fits-passed entry i (entry-known (d .rows) f header index fits-passed row l) k);
+        off-index = λ i p q r s.
+            omega (arith, step (header .size) (number-below (d .rows) f header index fits-passed entry (entry-known (d .rows) f header index fits-passed row l)), offset-fits, bytes-are, in-bucket .high, in-bucket .low);
+      }
+
+pub every-place : EveryPlace
+every-place d sequence f refused few z position row k l = safe d sequence f refused z few position row (k .known) (k .bound) l (k .no-string)
