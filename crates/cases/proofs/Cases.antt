@@ -30,7 +30,7 @@ use Rattle.standard_text.specs.Index.{setAt, setInto, setsAt, indexed, indexIn}
 use Rattle.standard_rules.specs.Rules.{textOf, setsFrom, columnsFrom, mapOf, refusalOf, checkedAs}
 use Rattle.lookup_rules.specs.declared.Question.{Question}
 use Rattle.lookup_rules.specs.declared.Question.the-variants.{Check, Place, View}
-use Rattle.lookup_rules.specs.Questions.{kindWith, targetOf, planFor, samePlan, stagesOf, answered, answerOf}
+use Rattle.lookup_rules.specs.Questions.{kindWith, targetOf, fileOf, planFor, samePlan, stagesOf, placeIn, answered, answerOf}
 use Rattle.cases.specs.SmallFile.{tableDat, f0, boolsDat, boolsF0}
 
 -- positions of the columns
@@ -82,7 +82,7 @@ pastHeader f =
     closed (indexFieldsAt f (bucketFieldsAt f m true .next) .next) m
 
 pub cases : List Bool
-unfolding bigFrom littleFrom uintOf sameBytes firstFrom after _>>=_ _▷_ orNo skipped skippedEach judged settled sizedAt uintAt rangedAt agreed markAt textBefore textAt stringAt nameAt entered opened closed passed recordAt blockAt mapAt ipositionAt axisInto axesAt shapeAt placeOf nameOf withNumber withName columnTypeOf cellBits typeAt headAt notesAt optionsAt dimensionsAt elementsAt layoutAt defaultAt tailAt columnAt blank isNamed firstNamed columnInto columnsAt kindOf setHeadAt firstNumber noManager managerInto managersAt sequenceAt ownShapeAt noOwner ownerInto ownersAt infoInto infosAt noBinding bindingOf bindingAt bindingsAt tableHeadAt descHeadAt refusedWith describedAs links chainOk chainText chainHolds offsetOk indexOk indexText freeOk all allFrom pairs entryOf covers boundTo dataOf fits inBucket clear numbersAt bucketFieldsAt indexFieldsAt headed headerIn setAt setInto setsAt indexed indexIn textOf setsFrom columnsFrom mapOf refusalOf checkedAs kindWith targetOf planFor samePlan stagesOf answered answerOf
+unfolding bigFrom littleFrom uintOf sameBytes firstFrom after _>>=_ _▷_ orNo skipped skippedEach judged settled sizedAt uintAt rangedAt agreed markAt textBefore textAt stringAt nameAt entered opened closed passed recordAt blockAt mapAt ipositionAt axisInto axesAt shapeAt placeOf nameOf withNumber withName columnTypeOf cellBits typeAt headAt notesAt optionsAt dimensionsAt elementsAt layoutAt defaultAt tailAt columnAt blank isNamed firstNamed columnInto columnsAt kindOf setHeadAt firstNumber noManager managerInto managersAt sequenceAt ownShapeAt noOwner ownerInto ownersAt infoInto infosAt noBinding bindingOf bindingAt bindingsAt tableHeadAt descHeadAt refusedWith describedAs links chainOk chainText chainHolds offsetOk indexOk indexText freeOk all allFrom pairs entryOf covers boundTo dataOf fits inBucket clear numbersAt bucketFieldsAt indexFieldsAt headed headerIn setAt setInto setsAt indexed indexIn textOf setsFrom columnsFrom mapOf refusalOf checkedAs kindWith targetOf fileOf placeIn planFor samePlan stagesOf answered answerOf
 cases =
     -- A: TIME row 5 is bytes 537 to 544
     gives tableDat f0 (Place 5 TIME) (8 * 537) 64

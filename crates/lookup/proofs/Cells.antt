@@ -4,17 +4,15 @@
 use mathlib.Core.Path.{_≡_, refl, sym, ap, _∙_}
 use mathlib.Core.List.{List, _++_}
 use mathlib.Core.Bool.{Bool, true, false, cond, _&&_}
-use Prim.Native.Nat.{ℕ, _+_, _-_, _*_, _≤_, _<_}
+use Prim.Native.Nat.{ℕ, _-_, _≤_, _<_}
 use native.Mathlib.Decide.{ℕ-discrete}
 use native.Mathlib.Omega.{arith}
-use lib.Dec.{T, eqb, ltb, ltb→lt}
+use lib.Dec.{T, eqb}
 use lib.ListN.{length, getD, replicate, length-append}
 use borrow.Author.Tests.{eq-eqb, ne-eqb}
 use Rattle.bytes_at.specs.Steps.{_>>=_}
-use Rattle.column_desc.specs.declared.Column.{Column}
 use Rattle.column_desc.specs.ColumnDesc.{blank}
 use Rattle.column_set.specs.declared.Binding.{Binding}
-use Rattle.column_set.specs.ColumnSet.{noBinding}
 use Rattle.table.specs.declared.Description.{Description}
 use Rattle.table.specs.Table.{describedAs}
 use Rattle.buckets.specs.Chain.{padded}
@@ -27,52 +25,24 @@ use Rattle.standard_text.specs.declared.Set.{Set}
 use Rattle.standard_text.specs.Header.{headerAt}
 use Rattle.standard_text.specs.Index.{noSet, indexAt, SetInside}
 use Rattle.standard_rules.specs.Rules.{textOf, setOf, columnOf, mapOf, refusalOf, checkedAs}
+use Rattle.incremental_rules.specs.Rules.{checkedAs as incrementalAs}
+use Rattle.incremental_rules.specs.Places.{placeOf as incrementalPlace}
+use Rattle.incremental_rules.proofs.Places.{checked-there}
 use Rattle.standard_place.specs.Bit.{bitOf}
 use Rattle.standard_place.proofs.Bits.{bit-is, entry-known, some-entry}
 use Rattle.standard_place.proofs.Padded.{bit-same}
 use Rattle.lookup_rules.specs.declared.Plan.{Plan}
 use Rattle.lookup_rules.specs.declared.Question.{Question}
-use Rattle.lookup_rules.specs.declared.Question.the-variants.{Check, Prepare, Place, PlacePlanned, View, ViewPlanned}
+use Rattle.lookup_rules.specs.declared.FileChecked.{FileChecked}
 use Rattle.lookup_rules.specs.declared.Staged.{Staged}
 use Rattle.lookup_rules.specs.declared.Answer.{Answer}
-use Rattle.lookup_rules.specs.Questions.{rowOf, positionOf, asksCell, sequenceOf, isColumn, isBelow, bindingAt, targetOf, planFor, stagesOf, bitsFor, noPlan, answered, answerOf}
+use Rattle.lookup_rules.specs.Questions.{rowOf, positionOf, asksCell, bindingAt, targetOf, fileOf, planFor, stagesOf, placeIn, bitsFor, noPlan, answered, answerOf}
+use Rattle.lookup_rules.proofs.CellAsked.{cell-sequence, cell-column, cell-row, bits-for}
 use Rattle.lookup_rules.proofs.Columns.{column-kept}
-use Rattle.lookup_rules.proofs.Stages.{check-of, row-passed, stages-sequence, target-column, target-passed, target-sequence, stages-plan, stages-set}
+use Rattle.lookup_rules.proofs.Files.{file-standard, file-incremental, standard-refused, incremental-refused, target-passed}
+use Rattle.lookup_rules.proofs.Stages.{check-of, row-passed, stages-sequence, stages-kind, target-column, target-sequence, target-position, stages-plan, stages-set, stages-first}
 use Rattle.lookup.specs.Lookup.{Findable, cellBit, answerWith}
-use Rattle.lookup.proofs.Placing.{sets-told, size-told, set-known, set-same, set-covered, set-inside, size-most, column-same, rows-most}
-
--- ---- a question that asks for a cell asks for a row and a column
-cell-sequence : (q : Question) (own : ℕ) → T (asksCell q) → sequenceOf q own ≡ own
-cell-sequence (Check n) own w = absurd w
-cell-sequence (Prepare c) own w = absurd w
-cell-sequence (Place row c) own w = refl
-cell-sequence (PlacePlanned row p) own w = refl
-cell-sequence (View row c) own w = refl
-cell-sequence (ViewPlanned row p) own w = refl
-
-cell-column : (q : Question) (count : ℕ) → T (asksCell q) → T (isColumn q count) → positionOf q < count
-cell-column (Check n) count w h = absurd w
-cell-column (Prepare c) count w h = absurd w
-cell-column (Place row c) count w h = ltb→lt c count h
-cell-column (PlacePlanned row p) count w h = ltb→lt (p .position) count h
-cell-column (View row c) count w h = ltb→lt c count h
-cell-column (ViewPlanned row p) count w h = ltb→lt (p .position) count h
-
-cell-row : (q : Question) (rows : ℕ) → T (asksCell q) → T (isBelow q rows) → rowOf q < rows
-cell-row (Check n) rows w h = absurd w
-cell-row (Prepare c) rows w h = absurd w
-cell-row (Place row c) rows w h = ltb→lt row rows h
-cell-row (PlacePlanned row p) rows w h = ltb→lt row rows h
-cell-row (View row c) rows w h = ltb→lt row rows h
-cell-row (ViewPlanned row p) rows w h = ltb→lt row rows h
-
-bits-for : (q : Question) (b : Bits) → bitsFor q b ≡ cond (asksCell q) b (record { first = 0; count = 0 })
-bits-for (Check n) b = refl
-bits-for (Prepare c) b = refl
-bits-for (Place row c) b = refl
-bits-for (PlacePlanned row p) b = refl
-bits-for (View row c) b = refl
-bits-for (ViewPlanned row p) b = refl
+use Rattle.lookup.proofs.Placing.{sets-told, size-told, set-known, set-same, set-covered, set-inside, size-most, column-same, rows-most, columns-most}
 
 -- a set that lies in a text lies in a longer one
 longer : {a b : ℕ} {x : Set} → a ≤ b → SetInside a 4 x → SetInside b 4 x
@@ -83,8 +53,9 @@ longer h i = record {
   per-most = i .per-most;
 }
 
--- ---- where nothing is refused, of a question that asks for a cell
-module _ (t f : List ℕ) (q : Question) (l : ℕ) (z : stagesOf t f q l .refused ≡ 0) (w : T (asksCell q)) where
+-- ---- where nothing is refused, of a question that asks for a cell of a StandardStMan file
+module _ (t f : List ℕ) (q : Question) (l : ℕ) (z : stagesOf t f q l .refused ≡ 0) (w : T (asksCell q))
+    (k : targetOf (describedAs t) q .incremental ≡ false) where
   abbrev d : Description
   d = describedAs t
 
@@ -117,10 +88,10 @@ module _ (t f : List ℕ) (q : Question) (l : ℕ) (z : stagesOf t f q l .refuse
   own = sym (target-sequence d q ∙ cell-sequence q (b .sequence) w)
 
   passes : refusalOf d sequence f before l ≡ 0
-  passes = check-of t f q l z
+  passes = sym (standard-refused d (targetOf d q) f l k row) ∙ check-of t f q l z
 
   known : c < d .«column_count»
-  known = cell-column q (d .«column_count») w (target-column d q (target-passed d sequence f before l passes))
+  known = cell-column q (d .«column_count») w (target-column d q (target-passed d (targetOf d q) f l row (check-of t f q l z)))
 
   below : row < d .rows
   below = cell-row q (d .rows) w (row-passed t f q l z)
@@ -142,20 +113,33 @@ module _ (t f : List ℕ) (q : Question) (l : ℕ) (z : stagesOf t f q l .refuse
   covered = rw (set-same d sequence f before l (b .set) listed) at (set-covered d sequence f before l passes (b .set) listed)
 
   -- what the stages hand over
+  plan-is : stagesOf t f q l .plan ≡ planFor d false (fileOf d (targetOf d q) f row l) c
+  plan-is = rw (← k) (stages-plan t f q l)
+
+  plan-set : stagesOf t f q l .plan .set ≡ b .set
+  unfolding planFor _>>=_
+  plan-set = ap (λ (p : Plan). p .set) plan-is
+
   set-is : stagesOf t f q l .set ≡ x
-  set-is = stages-set t f q l ∙ ap (λ (k : List Set). getD k (b .set) noSet) (sets-told d sequence f before l passes)
+  set-is =
+      stages-set t f q l
+      ∙ ap (λ (n : ℕ). getD (fileOf d (targetOf d q) f row l .sets) n noSet) plan-set
+      ∙ ap (λ (m : FileChecked). getD (m .sets) (b .set) noSet) (file-standard d (targetOf d q) f l k row)
+      ∙ ap (λ (s : List Set). getD s (b .set) noSet) (sets-told d sequence f before l passes)
 
   size-is : stagesOf t f q l .plan .size ≡ m .size
   unfolding planFor _>>=_
-  size-is = ap (λ (p : Plan). p .size) (stages-plan t f q l) ∙ size-told d sequence f before l passes
+  size-is =
+      ap (λ (p : Plan). p .size) plan-is ∙ ap (λ (m : FileChecked). m .size) (file-standard d (targetOf d q) f l k row)
+      ∙ size-told d sequence f before l passes
 
   offset-is : stagesOf t f q l .plan .offset ≡ columnAt m c .offset
   unfolding planFor _>>=_
-  offset-is = ap (λ (p : Plan). p .offset) (stages-plan t f q l) ∙ sym (ap (λ (k : MapColumn). k .offset) column-is)
+  offset-is = ap (λ (p : Plan). p .offset) plan-is ∙ sym (ap (λ (e : MapColumn). e .offset) column-is)
 
   bits-is : stagesOf t f q l .plan .bits ≡ columnAt m c .bits
   unfolding planFor _>>=_
-  bits-is = ap (λ (p : Plan). p .bits) (stages-plan t f q l) ∙ sym (ap (λ (k : MapColumn). k .bits) column-is)
+  bits-is = ap (λ (p : Plan). p .bits) plan-is ∙ sym (ap (λ (e : MapColumn). e .bits) column-is)
 
   inside : SetInside (length text) 4 x
   inside = rw (sets-told d sequence f before l passes) at (set-inside d sequence f before l passes (b .set) listed)
@@ -165,7 +149,7 @@ module _ (t f : List ℕ) (q : Question) (l : ℕ) (z : stagesOf t f q l .refuse
     unfolding padded
     text-fits = rw e (omega (arith, length-append text (replicate (l - length text) 0)))
 
-    findable : stagesOf t f q l .plan .offset < 4294967296 → stagesOf t f q l .plan .bits < 4294967296 → Findable y (stagesOf t f q l) row
+    findable : stagesOf t f q l .plan .offset < 4294967296 → stagesOf t f q l .plan .bits ≤ 4294967296 → Findable y (stagesOf t f q l) row
     findable o n = record {
       inside = rw set-is (longer text-fits inside);
       some = rw set-is (some-entry text x (d .rows) row covered below);
@@ -183,22 +167,41 @@ module _ (t f : List ℕ) (q : Question) (l : ℕ) (z : stagesOf t f q l .refuse
         (bit-same text (replicate (l - length text) 0) x _ _ _ row inside (entry-known text x (d .rows) row covered below)
         ∙ bit-is text x (d .rows) row covered below m c map-set)
 
--- ---- the answer, by what the calls of `ask` give
--- where a cell is asked for, and found
-same-cell : (k : Bool) (p p′ n : Bits) → (T k → p ≡ p′) → cond k p n ≡ cond k p′ n
-same-cell true p p′ n h = h tt
-same-cell false p p′ n h = refl
+-- ---- the same in IncrementalStMan, where the check has found the cell already
+module _ (t f : List ℕ) (q : Question) (l : ℕ) (k : targetOf (describedAs t) q .incremental ≡ true) where
+  there-first : stagesOf t f q l .refused ≡ 0 → T (asksCell q)
+      → stagesOf t f q l .first ≡ incrementalPlace (describedAs t) (targetOf (describedAs t) q .sequence) f (positionOf q) (rowOf q) .first
+  there-first z w =
+      let d = describedAs t in
+      let g = targetOf d q in
+      let passed = check-of t f q l z in
+      stages-first t f q l
+      ∙ ap (λ (m : FileChecked). m .first) (file-incremental d g f l k (rowOf q))
+      ∙ ap (λ (c : ℕ). incrementalAs d (g .sequence) f (g .refused) c (rowOf q) .first) (target-position d q)
+      ∙ checked-there d (g .sequence) f (g .refused)
+      (sym (incremental-refused d g f l k (rowOf q)) ∙ passed)
+      (columns-most t)
+      (positionOf q)
+      (rowOf q)
+      (cell-column q (d .«column_count») w (target-column d q (target-passed d g f l (rowOf q) passed)))
+      (sym (target-sequence d q ∙ cell-sequence q (bindingAt d (positionOf q) .sequence) w))
+      (cell-row q (d .rows) w (row-passed t f q l z))
 
-same-bits : (p : Bits) {first count : ℕ} → first ≡ p .first → count ≡ p .count → record { first = first; count = count } ≡ p
-same-bits p e k = rw (e, k)
+  there-count : stagesOf t f q l .plan .bits ≡ incrementalPlace (describedAs t) (targetOf (describedAs t) q .sequence) f (positionOf q) (rowOf q) .count
+  unfolding planFor incrementalPlace _>>=_
+  there-count = ap (λ (p : Plan). p .bits) (stages-plan t f q l) ∙ rw k
 
-cell-bit : (y : List ℕ) (s : Staged) (q : Question) → s .refused ≡ 0 → T (asksCell q)
-    → cellBit y s q ≡ bitOf y (s .set) (s .plan .size) (s .plan .offset) (s .plan .bits) (rowOf q)
-unfolding cellBit
-cell-bit y s q z w = rw (eq-eqb (s .refused) 0 z, is-true (asksCell q) w)
-
--- `cell_bit`
+-- ---- `cell_bit`
 module _ (y : List ℕ) (s : Staged) (q : Question) where
+  cell-here : s .refused ≡ 0 → T (asksCell q) → s .incremental ≡ false
+      → cellBit y s q ≡ bitOf y (s .set) (s .plan .size) (s .plan .offset) (s .plan .bits) (rowOf q)
+  unfolding cellBit
+  cell-here z w k = rw (eq-eqb (s .refused) 0 z, is-true (asksCell q) w, k)
+
+  cell-there : s .refused ≡ 0 → T (asksCell q) → s .incremental ≡ true → cellBit y s q ≡ s .first
+  unfolding cellBit
+  cell-there z w k = rw (eq-eqb (s .refused) 0 z, is-true (asksCell q) w, k)
+
   pub bit-refused : (s .refused ≡ 0 → ⊥) → 0 ≡ cellBit y s q
   unfolding cellBit
   bit-refused n = rw (ne-eqb (s .refused) 0 n)
@@ -207,15 +210,22 @@ module _ (y : List ℕ) (s : Staged) (q : Question) where
   unfolding cellBit
   bit-none z e n = rw (eq-eqb (s .refused) 0 z, ← e, n)
 
-  module _ {w : Bool} {row : ℕ} (z : s .refused ≡ 0) (e : w ≡ asksCell q) (k : w ≡ true) (o : row ≡ rowOf q)
-      (h : s .refused ≡ 0 → T (asksCell q) → Findable y s (rowOf q)) where
-    pub can-find : Findable y s row
-    can-find = rw o (h z (rw (← e, k) tt))
+  module _ {w : Bool} (z : s .refused ≡ 0) (e : w ≡ asksCell q) (k : w ≡ true) where
+    asked : T (asksCell q)
+    asked = rw (← e, k) tt
 
-    pub bit-found : {r : ℕ} → (0 < s .set .entries → r ≡ bitOf y (s .set) (s .plan .size) (s .plan .offset) (s .plan .bits) row) → r ≡ cellBit y s q
-    bit-found f = f (can-find .some) ∙ rw o (sym (cell-bit y s q z (rw (← e, k) tt)))
+    pub bit-there : s .incremental ≡ true → s .first ≡ cellBit y s q
+    bit-there i = sym (cell-there z asked i)
 
--- `answer`
+    module _ {row : ℕ} (i : s .incremental ≡ false) (o : row ≡ rowOf q)
+        (h : s .refused ≡ 0 → T (asksCell q) → s .incremental ≡ false → Findable y s (rowOf q)) where
+      pub can-find : Findable y s row
+      can-find = rw o (h z asked i)
+
+      pub bit-here : {r : ℕ} → (0 < s .set .entries → r ≡ bitOf y (s .set) (s .plan .size) (s .plan .offset) (s .plan .bits) row) → r ≡ cellBit y s q
+      bit-here f = f (can-find .some) ∙ rw o (sym (cell-here z asked i))
+
+-- ---- `answer`
 module _ (s : Staged) (q : Question) (first : ℕ) where
   pub answer-refused : {p : Plan} → p ≡ noPlan → (s .refused ≡ 0 → ⊥) → record { refused = s .refused; plan = p; first = 0; count = 0 } ≡ answerWith s q first
   unfolding answerWith answered
@@ -229,6 +239,15 @@ module _ (s : Staged) (q : Question) (first : ℕ) where
   unfolding answerWith answered
   answer-none z e k = rw (eq-eqb (s .refused) 0 z, ← e, k)
 
+-- ---- the answer, by what the calls of `ask` give
+-- where a cell is asked for, and found
+same-cell : (k : Bool) (p p′ n : Bits) → (T k → p ≡ p′) → cond k p n ≡ cond k p′ n
+same-cell true p p′ n h = h tt
+same-cell false p p′ n h = refl
+
+same-bits : (p : Bits) {first count : ℕ} → first ≡ p .first → count ≡ p .count → record { first = first; count = count } ≡ p
+same-bits p e k = rw (e, k)
+
 -- a refusal carries no bits
 answered-same : (s : Staged) {p p′ : Bits} → (s .refused ≡ 0 → p ≡ p′) → answered s p ≡ answered s p′
 unfolding answered
@@ -237,24 +256,57 @@ answered-same s {p} {p′} h = elim (ℕ-discrete (s .refused) 0) [
   | no n ↦ rw (ne-eqb (s .refused) 0 n)
 ]
 
-stages-target : (t f : List ℕ) (q : Question) (l : ℕ) → stagesOf t f q l .sequence ≡ targetOf (describedAs t) q .sequence
-unfolding stagesOf _>>=_
-stages-target t f q l = refl
+module _ (d : Description) (sequence : ℕ) (f : List ℕ) (row c : ℕ) where
+  place-here : placeIn d false sequence f row c ≡ placeOf (mapOf d sequence f) row c
+  unfolding placeIn
+  place-here = refl
+
+  place-there : placeIn d true sequence f row c ≡ incrementalPlace d sequence f c row
+  unfolding placeIn
+  place-there = refl
 
 module _ (t f : List ℕ) (q : Question) (l : ℕ) {s : Staged} {y : List ℕ} (e : s ≡ stagesOf t f q l)
-    (h : s .refused ≡ 0 → y ≡ padded l (textOf f (headerAt f (describedAs t .big)))) where
-  pub findable-by : s .plan .offset < 4294967296 → s .plan .bits < 4294967296 → s .refused ≡ 0 → T (asksCell q) → Findable y s (rowOf q)
-  findable-by o n z w = rw e (findable t f q l (rw e at z) w (h z) (rw e at o) (rw e at n))
+    (h : s .refused ≡ 0 → s .incremental ≡ false → y ≡ padded l (textOf f (headerAt f (describedAs t .big)))) where
+  -- the place of the cell
+  abbrev place : Bits
+  place = placeIn (describedAs t) (s .incremental) (s .sequence) f (rowOf q) (positionOf q)
 
-  found : s .refused ≡ 0 → T (asksCell q) → cellBit y s q ≡ placeOf (mapOf (describedAs t) (s .sequence) f) (rowOf q) (positionOf q) .first
-  found z w = cell-bit y s q z w ∙ rw (e, stages-target t f q l) (first-is t f q l (rw e at z) w (h z))
+  kind : {b : Bool} → s .incremental ≡ b → targetOf (describedAs t) q .incremental ≡ b
+  kind k = sym (ap (λ (x : Staged). x .incremental) e ∙ stages-kind t f q l) ∙ k
 
-  counted : s .refused ≡ 0 → T (asksCell q) → s .plan .bits ≡ placeOf (mapOf (describedAs t) (s .sequence) f) (rowOf q) (positionOf q) .count
-  counted z w = rw (e, stages-target t f q l) (bits-is t f q l (rw e at z) w)
+  same-sequence : s .sequence ≡ targetOf (describedAs t) q .sequence
+  same-sequence = ap (λ (x : Staged). x .sequence) e ∙ stages-sequence t f q l
+
+  pub findable-by : s .plan .offset < 4294967296 → s .plan .bits ≤ 4294967296 → s .refused ≡ 0 → T (asksCell q) → s .incremental ≡ false → Findable y s (rowOf q)
+  findable-by o n z w k = rw e (findable t f q l (rw e at z) w (kind k) (h z k) (rw e at o) (rw e at n))
+
+  found-here : s .refused ≡ 0 → T (asksCell q) → s .incremental ≡ false → cellBit y s q ≡ place .first
+  found-here z w k =
+      cell-here y s q z w k ∙ rw (k, same-sequence, place-here (describedAs t) _ f (rowOf q) (positionOf q)) (rw e (first-is t f q l (rw e at z) w (kind k) (h z k)))
+
+  counted-here : s .refused ≡ 0 → T (asksCell q) → s .incremental ≡ false → s .plan .bits ≡ place .count
+  counted-here z w k =
+      rw (k, same-sequence, place-here (describedAs t) _ f (rowOf q) (positionOf q)) (rw e (bits-is t f q l (rw e at z) w (kind k)))
+
+  found-there : s .refused ≡ 0 → T (asksCell q) → s .incremental ≡ true → cellBit y s q ≡ place .first
+  found-there z w k =
+      cell-there y s q z w k ∙ rw (k, same-sequence, place-there (describedAs t) _ f (rowOf q) (positionOf q)) (rw e (there-first t f q l (kind k) (rw e at z) w))
+
+  counted-there : s .refused ≡ 0 → T (asksCell q) → s .incremental ≡ true → s .plan .bits ≡ place .count
+  counted-there z w k =
+      rw (k, same-sequence, place-there (describedAs t) _ f (rowOf q) (positionOf q)) (rw e (there-count t f q l (kind k)))
+
+  found : (b : Bool) → s .incremental ≡ b → s .refused ≡ 0 → T (asksCell q) → cellBit y s q ≡ place .first
+  found true k z w = found-there z w k
+  found false k z w = found-here z w k
+
+  counted : (b : Bool) → s .incremental ≡ b → s .refused ≡ 0 → T (asksCell q) → s .plan .bits ≡ place .count
+  counted true k z w = counted-there z w k
+  counted false k z w = counted-here z w k
 
   pub answer-by : {first : ℕ} {a : Answer} → first ≡ cellBit y s q → a ≡ answerWith s q first → a ≡ answerOf t f q l
   unfolding answerWith answerOf
   answer-by {first} {a} i j =
       j
-      ∙ answered-same s (λ z. same-cell (asksCell q) _ _ _ (λ w. same-bits (placeOf (mapOf (describedAs t) (s .sequence) f) (rowOf q) (positionOf q)) (i ∙ found z w) (counted z w)))
+      ∙ answered-same s (λ z. same-cell (asksCell q) _ _ _ (λ w. same-bits place (i ∙ found (s .incremental) refl z w) (counted (s .incremental) refl z w)))
       ∙ rw (← (bits-for q _), e)

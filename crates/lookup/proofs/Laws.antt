@@ -1,10 +1,12 @@
 -- What no refusal shows, the room afterwards, and the answers as their enums.
 -- Assumes nothing.
 use mathlib.Core.Path.{_≡_, refl, sym, ap, _∙_}
-use mathlib.Core.Bool.{Bool, true, false}
+use mathlib.Core.Bool.{Bool, true, false, _&&_, not}
 use mathlib.Core.List.{List}
 use Prim.Native.Nat.{ℕ}
 use native.Mathlib.Decide.{ℕ-discrete}
+use native.Mathlib.Omega.{arith}
+use lib.Dec.{eqb}
 use lib.ListN.{length, replicate}
 use borrow.Author.Tests.{eq-eqb, ne-eqb}
 use Rattle.bytes_at.specs.Stages.{_▷_, orNo}
@@ -12,9 +14,15 @@ use Rattle.bytes_at.proofs.Stages.{then-left}
 use Rattle.table.specs.declared.Description.{Description}
 use Rattle.table.specs.Table.{describedAs}
 use Rattle.buckets.specs.Chain.{padded}
+use Rattle.standard_text.specs.declared.Set.{Set}
 use Rattle.standard_text.specs.Header.{headerAt}
-use Rattle.standard_rules.specs.Rules.{textOf}
+use Rattle.standard_text.specs.Index.{noSet}
+use Rattle.standard_rules.specs.declared.Checked.{Checked}
+use Rattle.standard_rules.specs.Rules.{textOf, checkedAs}
+use Rattle.incremental_rules.specs.declared.Checked.{Checked as IncrementalChecked}
+use Rattle.incremental_rules.specs.Rules.{checkedAs as incrementalAs}
 use Rattle.lookup_rules.specs.declared.Question.{Question}
+use Rattle.lookup_rules.specs.declared.Target.{Target}
 use Rattle.lookup_rules.specs.declared.Staged.{Staged}
 use Rattle.lookup_rules.specs.declared.Verdict.{Verdict}
 use Rattle.lookup_rules.specs.declared.Verdict.the-variants.{Accepted, Refused as NotAccepted}
@@ -23,8 +31,12 @@ use Rattle.lookup_rules.specs.declared.Planned.the-variants.{Ready, Refused as 
 use Rattle.lookup_rules.specs.declared.Placed.{Placed}
 use Rattle.lookup_rules.specs.declared.Placed.the-variants.{At, Refused as NotPlaced}
 use Rattle.lookup_rules.specs.declared.Answer.{Answer}
-use Rattle.lookup_rules.specs.Questions.{stagesOf, roomAfter, verdictOf, planOf, placedOf}
-use Rattle.lookup.specs.Lookup.{settled}
+use Rattle.lookup_rules.specs.Questions.{fileOf, stagesOf, roomAfter, verdictOf, planOf, placedOf}
+use Rattle.lookup_rules.proofs.Files.{file-standard, file-incremental}
+use Rattle.lookup.specs.Lookup.{keepsText, settled}
+
+false-true : false ≡ true → ⊥
+false-true h = let n : _≡_ {A = ℕ} 0 1 = cc in omega arith
 
 -- the stages after the file's check
 pub passed : (n : ℕ) (b1 b2 b3 : Bool) {r1 r2 r3 : ℕ} → r1 ≡ n ▷ orNo b1 12 → r2 ≡ r1 ▷ orNo b2 9 → r3 ≡ r2 ▷ orNo b3 14 → r3 ≡ 0 → n ≡ 0
@@ -38,17 +50,48 @@ pub room-text : (t f : List ℕ) (l : ℕ) {d : Description} {x : List ℕ} → 
     → x ≡ padded l (textOf f (headerAt f (describedAs t .big)))
 room-text t f l {d} {x} e h = rw (← e) h
 
+-- what is kept is not refused, and is a StandardStMan's
+kept-first : (n : ℕ) (i : Bool) → eqb n 0 && not i ≡ true → n ≡ 0
+kept-first n i h = elim (ℕ-discrete n 0) [ yes e ↦ e | no x ↦ absurd (false-true (rw (ne-eqb n 0 x) at h)) ]
+
+kept-second : (n : ℕ) (i : Bool) → eqb n 0 && not i ≡ true → i ≡ false
+kept-second n false h = refl
+kept-second n true h = elim (ℕ-discrete n 0) [ yes e ↦ absurd (false-true (rw (eq-eqb n 0 e) at h)) | no x ↦ absurd (false-true (rw (ne-eqb n 0 x) at h)) ]
+
+-- `keeps_text`
+pub keeps-refused : (s : Staged) → (s .refused ≡ 0 → ⊥) → false ≡ keepsText s
+keeps-refused s n = rw (ne-eqb (s .refused) 0 n)
+
+pub keeps-other : (s : Staged) {k : Bool} → s .refused ≡ 0 → k ≡ not (s .incremental) → k ≡ keepsText s
+keeps-other s z e = rw (eq-eqb (s .refused) 0 z) e
+
+-- `check_file`
+pub no-text : {A B : Type 0} {i : Bool} → i ≡ true → B → i ≡ false → A
+no-text e b k = absurd (false-true (sym k ∙ e))
+
+module _ (d : Description) (g : Target) (f : List ℕ) (row l : ℕ) where
+  pub file-there : {m : IncrementalChecked} {none : Set} → g .incremental ≡ true → m ≡ incrementalAs d (g .sequence) f (g .refused) (g .position) row → none ≡ noSet
+      → record { refused = m .refused; size = m .size; sets = replicate 16 none; first = m .first } ≡ fileOf d g f row l
+  file-there k e n = rw (file-incremental d g f l k row, e, n)
+
+  pub file-here : {m : Checked} → g .incremental ≡ false → m ≡ checkedAs d (g .sequence) f (g .refused) l
+      → record { refused = m .refused; size = m .size; sets = m .sets; first = 0 } ≡ fileOf d g f row l
+  file-here k e = rw (file-standard d g f l k row, e)
+
+-- a room that is kept or cleared
 module _ (t f : List ℕ) (q : Question) (l : ℕ) where
-  pub room-is : {s : Staged} {x x′ : List ℕ} → s ≡ stagesOf t f q l
-      → (s .refused ≡ 0 → x ≡ padded l (textOf f (headerAt f (describedAs t .big)))) → length x ≡ l → x′ ≡ settled (s .refused) x
-      → x′ ≡ roomAfter t f q l
+  room-by : {s : Staged} {x x′ : List ℕ} → s ≡ stagesOf t f q l
+      → (s .refused ≡ 0 → s .incremental ≡ false → x ≡ padded l (textOf f (headerAt f (describedAs t .big)))) → length x ≡ l
+      → (k : Bool) → k ≡ keepsText s → x′ ≡ settled k x → x′ ≡ roomAfter t f q l
   unfolding settled roomAfter
-  room-is {s} {x} {x′} es h el ex =
-      rw (← es)
-      (elim (ℕ-discrete (s .refused) 0) [
-        | yes z ↦ rw (eq-eqb (s .refused) 0 z) ((rw (eq-eqb (s .refused) 0 z) at ex) ∙ h z)
-        | no n ↦ rw (ne-eqb (s .refused) 0 n) ((rw (ne-eqb (s .refused) 0 n) at ex) ∙ ap (λ (k : ℕ). replicate k 0) el)
-      ])
+  room-by {s} {x} {x′} es h el true ek ex =
+      rw (← es, ← ek) (ex ∙ h (kept-first (s .refused) (s .incremental) (sym ek)) (kept-second (s .refused) (s .incremental) (sym ek)))
+  room-by {s} {x} {x′} es h el false ek ex = rw (← es, ← ek) (ex ∙ ap (λ (k : ℕ). replicate k 0) el)
+
+  pub room-is : {s : Staged} {x x′ : List ℕ} {k : Bool} → s ≡ stagesOf t f q l
+      → (s .refused ≡ 0 → s .incremental ≡ false → x ≡ padded l (textOf f (headerAt f (describedAs t .big)))) → length x ≡ l
+      → k ≡ keepsText s → x′ ≡ settled k x → x′ ≡ roomAfter t f q l
+  room-is {s} {x} {x′} {k} es h el ek ex = room-by es h el k ek ex
 
 -- ---- the answers as their enums
 module _ {a b : Answer} (e : a ≡ b) where

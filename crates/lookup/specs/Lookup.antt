@@ -1,7 +1,7 @@
 -- The cell that a question asks for, by the lent room, and the room after a question.
 use Prim.Native.Nat.{ℕ, _≤_, _<_}
 use mathlib.Core.List.{List}
-use mathlib.Core.Bool.{cond, _&&_}
+use mathlib.Core.Bool.{Bool, cond, _&&_, not}
 use lib.ListN.{length, replicate}
 use lib.Dec.{eqb}
 use Rattle.cell_map.specs.Map.{Bits}
@@ -12,9 +12,12 @@ use Rattle.lookup_rules.specs.declared.Staged.{Staged}
 use Rattle.lookup_rules.specs.declared.Answer.{Answer}
 use Rattle.lookup_rules.specs.Questions.{rowOf, asksCell, answered}
 
--- "It is all zero after every refusal"
-unfoldable pub settled : ℕ → List ℕ → List ℕ
-settled refused room = cond (eqb refused 0) room (replicate (length room) 0)
+-- "It is all zero after every refusal and for every IncrementalStMan file"
+abbrev pub keepsText : Staged → Bool
+keepsText s = eqb (s .refused) 0 && not (s .incremental)
+
+unfoldable pub settled : Bool → List ℕ → List ℕ
+settled keep room = cond keep room (replicate (length room) 0)
 
 -- The index text in the room has the column's set, and no sum of a place wraps.
 pub record Findable (text : List ℕ) (s : Staged) (row : ℕ) : Type 0 where
@@ -22,13 +25,16 @@ pub record Findable (text : List ℕ) (s : Staged) (row : ℕ) : Type 0 where
   pub some : 0 < s .set .entries
   pub size-most : s .plan .size ≤ 1048576
   pub offset-most : s .plan .offset < 4294967296
-  pub bits-most : s .plan .bits < 4294967296
+  pub bits-most : s .plan .bits ≤ 4294967296
   pub row-most : row ≤ 2147483647
 
 -- the first bit of the cell, 0 where none is asked for or the question is refused
 unfoldable pub cellBit : List ℕ → Staged → Question → ℕ
 cellBit text s q =
-    cond (eqb (s .refused) 0 && asksCell q) (bitOf text (s .set) (s .plan .size) (s .plan .offset) (s .plan .bits) (rowOf q)) 0
+    let there = s .first in
+    let here = bitOf text (s .set) (s .plan .size) (s .plan .offset) (s .plan .bits) (rowOf q) in
+    let cell = cond (s .incremental) there here in
+    cond (eqb (s .refused) 0 && asksCell q) cell 0
 
 -- the answer with a first bit
 unfoldable pub answerWith : Staged → Question → ℕ → Answer

@@ -1,61 +1,118 @@
 // The public questions over a table and a data file (document 01, "The questions"). Each is one question to `ask`, which alone
 // clears the room.
 ghost use mathlib.Core.Path.{_≡_};
-ghost use mathlib.Core.Bool.{_&&_};
-ghost use Prim.Native.Nat.{_<_};
+ghost use mathlib.Core.Bool.{false};
+ghost use Prim.Native.Nat.{_≤_, _<_};
 ghost use lib.Dec.{T};
 ghost use lib.ListN.{length};
 ghost use Rattle.table.specs.Table.{describedAs};
 ghost use Rattle.buckets.specs.Chain.{padded};
 ghost use Rattle.standard_text.specs.Header.{headerAt};
 ghost use Rattle.standard_rules.specs.Rules.{textOf};
-ghost use Rattle.lookup_rules.specs.Questions.{rowOf, asksCell, stagesOf, answerOf, roomAfter, verdictOf, planOf, placedOf, viewOf};
-ghost use Rattle.lookup.specs.Lookup.{settled, Findable, cellBit, answerWith};
+ghost use Rattle.lookup_rules.specs.Questions.{
+  rowOf,
+  asksCell,
+  fileOf,
+  stagesOf,
+  answerOf,
+  roomAfter,
+  verdictOf,
+  planOf,
+  placedOf,
+  viewOf,
+};
+ghost use Rattle.lookup.specs.Lookup.{keepsText, settled, Findable, cellBit, answerWith};
 use lookup_rules::Answer;
+use lookup_rules::FileChecked;
 use lookup_rules::Placed;
 use lookup_rules::Plan;
 use lookup_rules::Planned;
 use lookup_rules::Question;
 use lookup_rules::Staged;
+use lookup_rules::Target;
 use lookup_rules::Verdict;
+use table::Description;
 
-// All stages in their order. The room holds the index text where none refuses; where one does, it may hold anything.
+// The check of the manager's file, by its kind. The room holds the index text of a StandardStMan file that is not refused; else it
+// may hold anything.
+fn check_file(d: Description, g: Target, row: usize, file: &[u8], room: &mut [u8]) -> FileChecked
+    requires { ⌜ d .«column_count» ≤ 64 ⌝ }
+    ensures { λ r. ⌜ (r ≡ fileOf d g (now (file .entry)) row (length (now (room .entry)))) × (r .refused ≡ 0 → g .incremental ≡ false → now (room .exit) ≡ padded (length (now (room .entry))) (textOf (now (file .entry)) (headerAt (now (file .entry)) (d .big)))) ⌝ }
+{
+    if g.incremental {
+        let m = incremental::check(d, file, g.sequence, g.refused, g.position, row);
+        let none = standard_text::no_set();
+        let sets = [none; 16];
+        return FileChecked {
+            refused: m.refused,
+            size: m.size,
+            sets: sets,
+            first: m.first,
+        };
+    }
+    let m = standard::check(d, file, g.sequence, g.refused, room);
+    let sets = m.sets;
+    FileChecked {
+        refused: m.refused,
+        size: m.size,
+        sets: sets,
+        first: 0,
+    }
+}
+
+// All stages in their order. The room holds the index text of a StandardStMan file where none refuses; else it may hold
+// anything.
 fn stages(table: &[u8], file: &[u8], q: Question, room: &mut [u8]) -> Staged
-    ensures { λ r. ⌜ (r ≡ stagesOf (now (table .entry)) (now (file .entry)) q (length (now (room .entry)))) × (r .refused ≡ 0 → now (room .exit) ≡ padded (length (now (room .entry))) (textOf (now (file .entry)) (headerAt (now (file .entry)) (describedAs (now (table .entry)) .big)))) ⌝ }
-    ensures bounded { λ r. ⌜ (r .plan .offset < 4294967296) × (r .plan .bits < 4294967296) ⌝ }
+    ensures { λ r. ⌜ (r ≡ stagesOf (now (table .entry)) (now (file .entry)) q (length (now (room .entry)))) × (r .refused ≡ 0 → r .incremental ≡ false → now (room .exit) ≡ padded (length (now (room .entry))) (textOf (now (file .entry)) (headerAt (now (file .entry)) (describedAs (now (table .entry)) .big)))) ⌝ }
+    ensures bounded { λ r. ⌜ (r .plan .offset < 4294967296) × (r .plan .bits ≤ 4294967296) ⌝ }
 {
     let d = table::describe(table);
     let g = lookup_parts::find_target(d, q);
-    let m = standard::check(d, file, g.sequence, g.refused, room);
-    let p = lookup_parts::plan_for(d, m, g.position);
+    let row = lookup_parts::row_of(q);
+    let m = check_file(d, g, row, file, room);
+    let p = lookup_parts::plan_for(d, g.incremental, m, g.position);
     let sets = m.sets;
     let s = lookup_parts::set_at(sets, p.set);
     let fresh = lookup_parts::fresh(q, p);
     let r1 = lookup_parts::stage(m.refused, fresh, 12);
     let below = lookup_parts::below(q, d.rows);
     let r2 = lookup_parts::stage(r1, below, 9);
-    let seen = lookup_parts::seen(q, p.datatype);
+    let seen = lookup_parts::seen(q, g.incremental, p.datatype);
     let r3 = lookup_parts::stage(r2, seen, 14);
     Staged {
         refused: r3,
         plan: p,
         sequence: g.sequence,
+        incremental: g.incremental,
         set: s,
+        first: m.first,
     }
 }
 
-// The one place that clears the room after a refusal.
-fn settle(refused: usize, room: &mut [u8])
-    ensures { λ _. ⌜ now (room .exit) ≡ settled refused (now (room .entry)) ⌝ }
+// Whether the room keeps the index text.
+fn keeps_text(s: Staged) -> bool
+    ensures { λ r. ⌜ r ≡ keepsText s ⌝ }
 {
-    if refused != 0 {
-        bytes_at::clear(room);
+    if s.refused != 0 {
+        return false;
     }
+    !s.incremental
 }
 
-// The first bit of the cell that a question asks for, by the index text in the room; 0 where it asks for none or is refused.
+// The one place that clears the room.
+fn settle(keep: bool, room: &mut [u8])
+    ensures { λ _. ⌜ now (room .exit) ≡ settled keep (now (room .entry)) ⌝ }
+{
+    if keep {
+        return;
+    }
+    bytes_at::clear(room);
+}
+
+// The first bit of the cell that a question asks for: in StandardStMan by the index text in the room. 0 where the question asks
+// for none or is refused.
 fn cell_bit(room: &[u8], s: Staged, q: Question) -> usize
-    requires { ⌜ (s .refused ≡ 0 → T (asksCell q) → Findable (now room) s (rowOf q)) ⌝ }
+    requires { ⌜ (s .refused ≡ 0 → T (asksCell q) → s .incremental ≡ false → Findable (now room) s (rowOf q)) ⌝ }
     ensures { λ r. ⌜ r ≡ cellBit (now (room .entry)) s q ⌝ }
 {
     let wanted = lookup_parts::asks_cell(q);
@@ -64,6 +121,9 @@ fn cell_bit(room: &[u8], s: Staged, q: Question) -> usize
         return 0;
     }
     if wanted {
+        if s.incremental {
+            return s.first;
+        }
         let p = s.plan;
         let set = s.set;
         return standard_place::first_bit(room, set, p.size, p.offset, p.bits, row);
@@ -108,7 +168,8 @@ pub fn ask(table: &[u8], file: &[u8], q: Question, room: &mut [u8]) -> Answer
 {
     let s = stages(table, file, q, room);
     let first = cell_bit(room, s, q);
-    settle(s.refused, room);
+    let keep = keeps_text(s);
+    settle(keep, room);
     answer(s, q, first)
 }
 

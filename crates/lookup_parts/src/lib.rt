@@ -1,7 +1,7 @@
 // The parts of a question over a table and a data file (document 01, "The questions"): the column and the manager that it is
 // about, the fresh plan, and whether a prepared plan, the row and a view pass.
 ghost use mathlib.Core.Path.{_≡_};
-ghost use mathlib.Core.Bool.{_&&_};
+ghost use mathlib.Core.Bool.{_&&_, _||_};
 ghost use Prim.Native.Nat.{ℕ, _≤_, _<_};
 ghost use lib.Dec.{eqb};
 ghost use lib.ListN.{getD};
@@ -17,7 +17,11 @@ ghost use Rattle.lookup_rules.specs.Questions.{
   asksCell,
   isColumn,
   kindWith,
-  isStandard,
+  isIncremental,
+  isPlaced,
+  isHeld,
+  ifStandard,
+  bitsIn,
   targetOf,
   planFor,
   samePlan,
@@ -30,10 +34,10 @@ use column_desc::Column;
 use column_set::Binding;
 use column_set::Kind;
 use column_set::Manager;
+use lookup_rules::FileChecked;
 use lookup_rules::Plan;
 use lookup_rules::Question;
 use lookup_rules::Target;
-use standard_rules::Checked;
 use standard_text::Set;
 use table::Description;
 
@@ -183,13 +187,38 @@ pub fn kind_with(managers: [Manager; 16], count: usize, sequence: usize) -> Kind
     m.kind
 }
 
-pub fn is_standard(kind: Kind) -> bool
-    ensures { λ r. ⌜ r ≡ isStandard kind ⌝ }
+pub fn is_incremental(kind: Kind) -> bool
+    ensures { λ r. ⌜ r ≡ isIncremental kind ⌝ }
+{
+    match kind {
+        Kind::Other => false,
+        Kind::Standard => false,
+        Kind::Incremental => true,
+    }
+}
+
+// Whether a column of a data type, where one is asked for, has cells in an IncrementalStMan file.
+pub fn is_placed(q: Question, datatype: usize) -> bool
+    ensures { λ r. ⌜ r ≡ isPlaced q datatype ⌝ }
+{
+    match q {
+        Question::Check(_) => true,
+        Question::Prepare(_) => datatype != 11,
+        Question::Place(_, _) => datatype != 11,
+        Question::PlacePlanned(_, _) => datatype != 11,
+        Question::View(_, _) => datatype != 11,
+        Question::ViewPlanned(_, _) => datatype != 11,
+    }
+}
+
+// Whether a question can be asked of a manager of the kind.
+pub fn is_held(kind: Kind, placed: bool) -> bool
+    ensures { λ r. ⌜ r ≡ isHeld kind placed ⌝ }
 {
     match kind {
         Kind::Other => false,
         Kind::Standard => true,
-        Kind::Incremental => false,
+        Kind::Incremental => placed,
     }
 }
 
@@ -206,19 +235,48 @@ pub fn find_target(d: Description, q: Question) -> Target
     let sequence = sequence_of(q, b.sequence as usize);
     let managers = d.managers;
     let kind = kind_with(managers, d.manager_count, sequence);
-    let known = is_standard(kind);
-    let r2 = stage(r1, known, 8);
+    let columns = d.columns;
+    let c = column_at(columns, position);
+    let t = c.datatype;
+    let placed = is_placed(q, t.number as usize);
+    let held = is_held(kind, placed);
+    let r2 = stage(r1, held, 8);
+    let incremental = is_incremental(kind);
     Target {
         refused: r2,
         position: position,
         sequence: sequence,
+        incremental: incremental,
     }
 }
 
+// What a plan has of StandardStMan alone.
+pub fn if_standard(incremental: bool, n: usize) -> usize
+    ensures { λ r. ⌜ r ≡ ifStandard incremental n ⌝ }
+    ensures bounded { λ r. ⌜ r ≤ n ⌝ }
+{
+    if incremental {
+        return 0;
+    }
+    n
+}
+
+// The bits of a cell: whole bytes in IncrementalStMan.
+pub fn bits_in(incremental: bool, bits: usize) -> usize
+    requires { ⌜ bits < 4294967296 ⌝ }
+    ensures { λ r. ⌜ r ≡ bitsIn incremental bits ⌝ }
+    ensures bounded { λ r. ⌜ r ≤ 4294967296 ⌝ }
+{
+    if incremental {
+        return 8 * ((bits + 7) / 8);
+    }
+    bits
+}
+
 // What the table and the file say of a column's cells now.
-pub fn plan_for(d: Description, m: Checked, position: usize) -> Plan
-    ensures { λ r. ⌜ r ≡ planFor d m position ⌝ }
-    ensures bounded { λ r. ⌜ (r .offset < 4294967296) × (r .bits < 4294967296) ⌝ }
+pub fn plan_for(d: Description, incremental: bool, m: FileChecked, position: usize) -> Plan
+    ensures { λ r. ⌜ r ≡ planFor d incremental m position ⌝ }
+    ensures bounded { λ r. ⌜ (r .offset < 4294967296) × (r .bits ≤ 4294967296) ⌝ }
 {
     let columns = d.columns;
     let c = column_at(columns, position);
@@ -226,16 +284,20 @@ pub fn plan_for(d: Description, m: Checked, position: usize) -> Plan
     let b = binding_at(bindings, position);
     let sets = m.sets;
     let s = set_at(sets, b.set as usize);
+    let bits = bits_in(incremental, c.bits as usize);
+    let set = if_standard(incremental, b.set as usize);
+    let offset = if_standard(incremental, b.offset as usize);
+    let per = if_standard(incremental, s.per);
     let t = c.datatype;
     Plan {
         position: position,
         sequence: b.sequence as usize,
         datatype: t.number as usize,
         elements: c.elements as usize,
-        bits: c.bits as usize,
-        set: b.set as usize,
-        offset: b.offset as usize,
-        per: s.per,
+        bits: bits,
+        set: set,
+        offset: offset,
+        per: per,
         size: m.size,
     }
 }
@@ -247,6 +309,15 @@ fn both(a: bool, b: bool) -> bool
         return b;
     }
     false
+}
+
+fn either(a: bool, b: bool) -> bool
+    ensures { λ r. ⌜ r ≡ a || b ⌝ }
+{
+    if a {
+        return true;
+    }
+    b
 }
 
 // Whether two plans agree in every field.
@@ -291,17 +362,17 @@ pub fn below(q: Question, rows: usize) -> bool
     }
 }
 
-// Whether what is viewed is no Bool.
-pub fn seen(q: Question, datatype: usize) -> bool
-    ensures { λ r. ⌜ r ≡ isSeen q datatype ⌝ }
+// Whether what is viewed is no Bool of a StandardStMan file.
+pub fn seen(q: Question, incremental: bool, datatype: usize) -> bool
+    ensures { λ r. ⌜ r ≡ isSeen q incremental datatype ⌝ }
 {
     match q {
         Question::Check(_) => true,
         Question::Prepare(_) => true,
         Question::Place(_, _) => true,
         Question::PlacePlanned(_, _) => true,
-        Question::View(_, _) => datatype != 0,
-        Question::ViewPlanned(_, _) => datatype != 0,
+        Question::View(_, _) => either(incremental, datatype != 0),
+        Question::ViewPlanned(_, _) => either(incremental, datatype != 0),
     }
 }
 

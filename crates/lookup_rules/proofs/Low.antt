@@ -1,4 +1,4 @@
--- The refusals of AipsIO objects, of table.dat, of a header and of an index text are 1 to 7.
+-- No refusal of AipsIO objects, of table.dat, of a header, of an index or of an IncrementalStMan bucket is above 11.
 -- Assumes nothing.
 use mathlib.Core.Path.{_≡_, sym}
 use mathlib.Core.List.{List}
@@ -14,6 +14,7 @@ use Rattle.bytes_at.specs.declared.Width.the-variants.{Four}
 use Rattle.bytes_at.specs.Bytes.{bytes}
 use Rattle.bytes_at.specs.Loop.{after}
 use Rattle.bytes_at.specs.Steps.{_>>=_}
+use Rattle.bytes_at.specs.Stages.{_▷_}
 use Rattle.aipsio.specs.declared.Cursor.{Cursor}
 use Rattle.aipsio.specs.declared.Value.{Value}
 use Rattle.aipsio.specs.Field.{latched, refusedAt, leftIn, skipped, skippedEach, judged, settled, sizedAt, uintAt, rangedAt, flagAt, agreed, markAt, textAt, stringAt, nameAt}
@@ -32,10 +33,18 @@ use Rattle.standard_text.specs.declared.IndexFields.{IndexFields}
 use Rattle.standard_text.specs.declared.Sets.{Sets}
 use Rattle.standard_text.specs.Header.{headerRoom, bucketFieldsAt, indexFieldsAt, headed, headerIn, headerAt}
 use Rattle.standard_text.specs.Index.{setAt, setInto, setsAt, indexed, indexIn, indexAt}
+use Rattle.incremental_text.specs.declared.HeaderFields.{HeaderFields}
+use Rattle.incremental_text.specs.declared.Index.{Index}
+use Rattle.incremental_text.specs.Header.{fieldsAt, headed as incrementalHeaded, headerIn as incrementalHeaderIn, headerAt as incrementalHeader}
+use Rattle.incremental_text.specs.Index.{indexed as incrementalIndexed, indexIn as incrementalIndexIn, indexAt as incrementalIndex}
+use Rattle.incremental_bucket.specs.declared.Starts.{Starts}
+use Rattle.incremental_bucket.specs.Bucket.{dataAt, started, startInto, startsAt, offsetInto, offsetsAt, columnAt as partColumnAt, columnInto as partColumnInto, columnsAt as partColumnsAt, orderOf, bucketAt}
+use Rattle.incremental_rules.specs.declared.Cells.{Cells}
+use Rattle.incremental_rules.specs.Rules.{foundAs, bucketInto, nothing}
 
--- d, read on from c, has no refusal above 7 of its own
+-- d, read on from c, has no refusal above 11 of its own
 record Low (c d : Cursor) : Type 0 where
-  low : c .refused ≤ 7 → d .refused ≤ 7
+  low : c .refused ≤ 11 → d .refused ≤ 11
 
 low-same : (c : Cursor) → Low c c
 low-same c = record { low = λ h. h }
@@ -65,7 +74,7 @@ latched-low c d k =
 clean-low : (c : Cursor) (at end : ℕ) → Low c (record { at = at; end = end; big = c .big; refused = 0 })
 clean-low c at end = record { low = λ h. zero-le }
 
-fault-low : (c : Cursor) (from n : ℕ) → n ≤ 7 → Low c (refusedAt c from n)
+fault-low : (c : Cursor) (from n : ℕ) → n ≤ 11 → Low c (refusedAt c from n)
 fault-low c from n k = record { low = λ h. k }
 
 -- ---- steps
@@ -80,7 +89,7 @@ each-low c n size =
     let room = leftIn c / size in
     latched-low c _ (cond-low (leb n room) (clean-low c (c .at + n * size) (c .end)) (fault-low c (c .at + room * size) 1 (omega arith)))
 
-judged-low : (c : Cursor) (from : ℕ) (ok : Bool) (n : ℕ) → n ≤ 7 → Low c (judged c from ok n)
+judged-low : (c : Cursor) (from : ℕ) (ok : Bool) (n : ℕ) → n ≤ 11 → Low c (judged c from ok n)
 unfolding judged
 judged-low c from ok n h = latched-low c _ (cond-low ok (low-same c) (fault-low c from n h))
 
@@ -114,7 +123,7 @@ module _ (s : List ℕ) (c : Cursor) where
   unfolding uintAt _>>=_
   uint-low = settled-low _ (skipped-low c 4)
 
-  ranged-low : (width low high n : ℕ) → n ≤ 7 → Low c (rangedAt s c width low high n .next)
+  ranged-low : (width low high n : ℕ) → n ≤ 11 → Low c (rangedAt s c width low high n .next)
   unfolding rangedAt _>>=_
   ranged-low width low high n h = settled-low _ (sized-low width ⨟ judged-low _ _ _ n h)
 
@@ -282,7 +291,7 @@ module _ (s : List ℕ) (c : Cursor) where
   desc-head-low =
       string-low s c 0 4096 ⨟ string-low s _ 0 4096 ⨟ string-low s _ 0 4096 ⨟ record-low s _ ⨟ record-low s _ ⨟ number-in-low s _ 1 64 4
 
-pub described-low : (s : List ℕ) → describedAs s .refused ≤ 7
+pub described-low : (s : List ℕ) → describedAs s .refused ≤ 11
 unfolding describedAs refusedWith _>>=_
 described-low s =
     let whole = judged-low (record { at = 0; end = length s; big = 1; refused = 0 }) 65536 (leb (length s) 65536) 4 (omega arith) in
@@ -319,7 +328,7 @@ unfolding headed
 headed-is c b i =
     elim (ℕ-discrete (c .refused) 0) [ yes e ↦ rw (eq-eqb (c .refused) 0 e) (sym e) | no n ↦ rw (ne-eqb (c .refused) 0 n) ]
 
-pub header-low : (s : List ℕ) (big : Bool) → headerAt s big .refused ≤ 7
+pub header-low : (s : List ℕ) (big : Bool) → headerAt s big .refused ≤ 11
 unfolding headerIn _>>=_
 header-low s big =
     let first : Cursor = record { at = 0; end = headerRoom (length s); big = 1; refused = 0 } in
@@ -345,7 +354,7 @@ unfolding indexed
 indexed-is c all =
     elim (ℕ-discrete (c .refused) 0) [ yes e ↦ rw (eq-eqb (c .refused) 0 e) (sym e) | no n ↦ rw (ne-eqb (c .refused) 0 n) ]
 
-pub index-low : (s : List ℕ) (n : ℕ) → indexAt s n .refused ≤ 7
+pub index-low : (s : List ℕ) (n : ℕ) → indexAt s n .refused ≤ 11
 unfolding indexIn _>>=_
 index-low s n =
     let first : Cursor = record { at = 0; end = length s; big = 1; refused = 0 } in
@@ -353,3 +362,95 @@ index-low s n =
     let last : Low first (judged (all .next) (all .next .at) (eqb (all .next .at) (all .next .end)) 7) =
     sets-low s first Four n ⨟ judged-low _ _ _ 7 (omega arith) in
     rw indexed-is (last .low zero-le)
+
+-- ---- IncrementalStMan: the header
+fields-low : (s : List ℕ) (c : Cursor) (big : Bool) → Low c (fieldsAt s c big .next)
+unfolding fieldsAt _>>=_
+fields-low s c big =
+    opened-low s c _ 5 5 ⨟ code-low s _ 0 1 1 ⨟ judged-low _ _ _ 6 (omega arith) ⨟ number-in-low s _ 16 1048576 4 ⨟ number-in-low s _ 0 4096 4
+    ⨟ uint-low s _ ⨟ uint-low s _ ⨟ uint-low s _ ⨟ uint-low s _
+
+incremental-headed-is : (c : Cursor) (h : HeaderFields) → incrementalHeaded c h .refused ≡ c .refused
+unfolding incrementalHeaded
+incremental-headed-is c h =
+    elim (ℕ-discrete (c .refused) 0) [ yes e ↦ rw (eq-eqb (c .refused) 0 e) (sym e) | no n ↦ rw (ne-eqb (c .refused) 0 n) ]
+
+pub incremental-header-low : (s : List ℕ) (big : Bool) → incrementalHeader s big .refused ≤ 11
+unfolding incrementalHeaderIn _>>=_
+incremental-header-low s big =
+    let first : Cursor = record { at = 0; end = headerRoom (length s); big = 1; refused = 0 } in
+    let m = markAt s first in
+    let last : Low first (closed (fieldsAt s m big .next) m) = mark-low s first ⨟ fields-low s _ big ⨟ closed-low _ m in
+    rw incremental-headed-is (last .low zero-le)
+
+-- the ISMIndex
+incremental-indexed-is : (c : Cursor) (count firsts buckets : ℕ) → incrementalIndexed c count firsts buckets .refused ≡ c .refused
+unfolding incrementalIndexed
+incremental-indexed-is c count firsts buckets =
+    elim (ℕ-discrete (c .refused) 0) [ yes e ↦ rw (eq-eqb (c .refused) 0 e) (sym e) | no n ↦ rw (ne-eqb (c .refused) 0 n) ]
+
+pub incremental-index-low : (s : List ℕ) (at : ℕ) → incrementalIndex s at .refused ≤ 11
+unfolding incrementalIndexIn _>>=_
+incremental-index-low s at =
+    let first : Cursor = record { at = at; end = length s; big = 1; refused = 0 } in
+    let m = markAt s first in
+    let n = uintAt s (opened s m (bytes "ISMIndex") 1 1 .next) in
+    let firsts = blockAt s (n .next) (n .value + 1) 4 in
+    let last : Low first (closed (blockAt s (firsts .next) (n .value) 4 .next) m) =
+    mark-low s first ⨟ opened-low s _ _ 1 1 ⨟ uint-low s _ ⨟ block-low s _ _ 4 ⨟ block-low s _ _ 4 ⨟ closed-low _ m in
+    rw incremental-indexed-is (last .low zero-le)
+
+-- a bucket
+started-next : (c : Cursor) (last hit : ℕ) → started c last hit .next ≡ c
+unfolding started
+started-next c last hit = elim (ℕ-discrete (c .refused) 0) [ yes e ↦ rw (eq-eqb (c .refused) 0 e) | no n ↦ rw (ne-eqb (c .refused) 0 n) ]
+
+module _ (s : List ℕ) (c : Cursor) where
+  data-low : (size : ℕ) → Low c (dataAt s c size .next)
+  unfolding dataAt _>>=_
+  data-low size = settled-low _ (uint-low s c ⨟ judged-low _ _ _ 3 (omega arith) ⨟ judged-low _ _ _ 11 (omega arith) ⨟ skipped-low _ _)
+
+  starts-low : (n rows row : ℕ) → Low c (startsAt s c n rows row .next)
+  unfolding startsAt startInto _>>=_
+  starts-low n rows row =
+      after-low _ (λ (st : Starts). st .next) (λ st i. rw started-next (uint-low s (st .next) ⨟ judged-low _ _ _ 11 (omega arith))) _ n
+
+  offsets-low : (n limit bytes hit : ℕ) → Low c (offsetsAt s c n limit bytes hit .next)
+  unfolding offsetsAt offsetInto _>>=_
+  offsets-low n limit bytes hit =
+      after-low _ (λ (st : Value). st .next) (λ st i. settled-low _ (uint-low s (st .next) ⨟ judged-low _ _ _ 11 (omega arith))) _ n
+
+module _ (s : List ℕ) where
+  part-low : (c : Cursor) (limit rows row bytes : ℕ) → Low c (partColumnAt s c limit rows row bytes .next)
+  unfolding partColumnAt _>>=_
+  part-low c limit rows row bytes = uint-low s c ⨟ judged-low _ _ _ 11 (omega arith) ⨟ starts-low s _ _ _ _ ⨟ offsets-low s _ _ _ _ _
+
+  parts-low : (c : Cursor) (limit rows row column : ℕ) (bytes : List ℕ) (n : ℕ) → Low c (partColumnsAt s c limit rows row column bytes n .next)
+  unfolding partColumnsAt partColumnInto _>>=_
+  parts-low c limit rows row column bytes n = after-low _ (λ (st : Value). st .next) (λ st k. part-low (st .next) _ _ _ _) _ n
+
+bucket-low : (f : List ℕ) (at size : ℕ) (big : Bool) (rows row column : ℕ) (bytes : List ℕ) (n : ℕ)
+    → bucketAt f at size big rows row column bytes n .next .refused ≤ 11
+unfolding bucketAt _>>=_
+bucket-low f at size big rows row column bytes n =
+    let first : Cursor = record { at = at; end = at + size; big = orderOf big; refused = 0 } in
+    let last : Low first (partColumnsAt f (dataAt f first size .next) (dataAt f first size .value) rows row column bytes n .next) =
+    data-low f first size ⨟ parts-low f _ _ _ _ _ _ _ in
+    last .low zero-le
+
+-- the buckets in turn
+found-is : (refused start offset : ℕ) → foundAs refused start offset .refused ≡ refused
+unfolding foundAs
+found-is refused start offset =
+    elim (ℕ-discrete refused 0) [ yes e ↦ rw (eq-eqb refused 0 e) (sym e) | no n ↦ rw (ne-eqb refused 0 n) ]
+
+first-low : (a b : ℕ) → a ≤ 11 → b ≤ 11 → (a ▷ b) ≤ 11
+unfolding _▷_
+first-low a b h k = elim (ℕ-discrete a 0) [ yes e ↦ rw (eq-eqb a 0 e) k | no n ↦ rw (ne-eqb a 0 n) h ]
+
+pub search-low : (big : Bool) (f : List ℕ) (size : ℕ) (x : Index) (cells : Cells) (row n : ℕ)
+    → after (bucketInto big f size x cells row) nothing n .refused ≤ 11
+unfolding after bucketInto _>>=_
+search-low big f size x cells row zero = zero-le
+search-low big f size x cells row (suc n) =
+    rw found-is (first-low _ _ (search-low big f size x cells row n) (bucket-low f _ size big _ _ _ _ _))

@@ -11,9 +11,10 @@ use Rattle.bytes_at.specs.Steps.{_>>=_}
 use Rattle.bytes_at.specs.Stages.{_▷_, orNo}
 use Rattle.table.specs.declared.Description.{Description}
 use Rattle.standard_rules.specs.Rules.{refusalOf}
+use Rattle.incremental_rules.specs.Rules.{searchOf, refusalOf as incrementalRefusal}
 use Rattle.lookup_rules.specs.declared.Question.{Question}
 use Rattle.lookup_rules.specs.Questions.{targetOf}
-use Rattle.lookup_rules.proofs.Low.{header-low, index-low}
+use Rattle.lookup_rules.proofs.Low.{header-low, index-low, incremental-header-low, incremental-index-low, search-low}
 
 -- ---- two stages
 pub stops : (a b : ℕ) → (a ≡ 0 → ⊥) → a ▷ b ≡ a
@@ -33,7 +34,7 @@ passes a n = elim (ℕ-discrete a 0) [ yes e ↦ goes a 0 e ∙ sym e | no h ↦
 abbrev pub Not12 : ℕ → Type 0
 Not12 n = n ≡ 12 → ⊥
 
-low-not : (n : ℕ) → n ≤ 7 → Not12 n
+low-not : (n : ℕ) → n ≤ 11 → Not12 n
 low-not n h = omega arith
 
 stage-not : (a b : ℕ) → Not12 a → Not12 b → Not12 (a ▷ b)
@@ -44,7 +45,7 @@ unfolding orNo
 test-not true n h = omega arith
 test-not false n h = h
 
-pub target-not : (d : Description) (q : Question) → d .refused ≤ 7 → Not12 (targetOf d q .refused)
+pub target-not : (d : Description) (q : Question) → d .refused ≤ 11 → Not12 (targetOf d q .refused)
 unfolding targetOf _>>=_
 target-not d q h =
     stage-not _ _ (stage-not (d .refused) _ (low-not _ h) (test-not _ 8 (omega arith))) (test-not _ 8 (omega arith))
@@ -59,6 +60,16 @@ check-not d sequence f refused l h =
     (stage-not _ _ (test-not _ 10 (omega arith))
     (stage-not _ _ (low-not _ (index-low _ _))
     (stage-not _ _ (test-not _ 10 (omega arith)) (test-not _ 11 (omega arith))))))))
+
+pub incremental-not : (d : Description) (sequence : ℕ) (f : List ℕ) (refused : ℕ) → Not12 refused → Not12 (incrementalRefusal d sequence f refused)
+unfolding incrementalRefusal searchOf
+incremental-not d sequence f refused h =
+    stage-not _ _ h
+    (stage-not _ _ (low-not _ (incremental-header-low f (d .big)))
+    (stage-not _ _ (test-not _ 1 (omega arith))
+    (stage-not _ _ (low-not _ (incremental-index-low f _))
+    (stage-not _ _ (test-not _ 10 (omega arith))
+    (stage-not _ _ (test-not _ 11 (omega arith)) (low-not _ (search-low _ f _ _ _ _ _)))))))
 
 -- ---- the file check's number a, then the plan's stage, then the later ones
 pub three : (a b c : ℕ) → (a ▷ b) ▷ c ≡ a ▷ (b ▷ c)

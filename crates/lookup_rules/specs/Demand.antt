@@ -2,6 +2,7 @@
 use Prim.Native.Nat.{ℕ}
 use mathlib.Core.Path.{_≡_}
 use mathlib.Core.List.{List}
+use Rattle.column_set.specs.declared.Kind.the-variants.{Standard}
 use Rattle.table.specs.Table.{describedAs}
 use Rattle.cell_map.specs.Map.{Bits}
 use Rattle.cell_map.specs.Demand.{Demand3}
@@ -11,7 +12,7 @@ use Rattle.lookup_rules.specs.declared.Asked.the-variants.{Position, Pla
 use Rattle.lookup_rules.specs.declared.Question.{Question}
 use Rattle.lookup_rules.specs.declared.Question.the-variants.{Place, PlacePlanned}
 use Rattle.lookup_rules.specs.declared.Answer.{Answer}
-use Rattle.lookup_rules.specs.Questions.{bindingAt, answerOf}
+use Rattle.lookup_rules.specs.Questions.{bindingAt, kindWith, answerOf}
 
 abbrev pub question : ℕ → Asked → Question
 question row (Position c) = Place row c
@@ -29,11 +30,16 @@ bitsOf a = record { first = a .first; count = a .count }
 abbrev pub carries : List ℕ → Asked → ℕ → Type 0
 carries t a sequence = bindingAt (describedAs t) (columnOf a) .sequence ≡ sequence
 
+-- "Place in StandardStMan": the manager with the sequence number is one
+abbrev pub inStandard : List ℕ → ℕ → Type 0
+inStandard t sequence = kindWith (describedAs t .managers) (describedAs t .«manager_count») sequence ≡ Standard
+
 -- "a single statement on every two unrefused answers of Place in StandardStMan for the same table and file bytes, each with
 -- its own index room", each asked by position or by plan
 abbrev pub Places : Type 0
 Places =
     (t f : List ℕ) (sequence l l′ row row′ : ℕ) (a a′ : Asked)
+    → inStandard t sequence
     → carries t a sequence
     → carries t a′ sequence
     → answerOf t f (question row a) l .refused ≡ 0

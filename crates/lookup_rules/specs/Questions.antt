@@ -1,13 +1,12 @@
 -- Document 01, "The questions" and "Refusal numbers": what each question answers, and the room afterwards.
-use Prim.Native.Nat.{ℕ, _/_}
+use Prim.Native.Nat.{ℕ, _*_, _/_}
 use mathlib.Core.List.{List}
 use mathlib.Core.Bool.{Bool, true, false, cond, _&&_, _||_, not}
-use lib.ListN.{length, getD, take, drop, replicate}
+use lib.ListN.{getD, take, drop, replicate}
 use lib.Dec.{ltb, eqb}
 use Rattle.bytes_at.specs.First.{firstBelow}
 use Rattle.bytes_at.specs.Stages.{_▷_, orNo}
 use Rattle.bytes_at.specs.Steps.{_>>=_}
-use Rattle.column_desc.specs.declared.Column.{Column}
 use Rattle.column_desc.specs.ColumnDesc.{blank}
 use Rattle.column_set.specs.declared.Kind.{Kind}
 use Rattle.column_set.specs.declared.Kind.the-variants.{Other, Standard, Incremental}
@@ -18,14 +17,19 @@ use Rattle.table.specs.declared.Description.{Description}
 use Rattle.table.specs.Table.{describedAs}
 use Rattle.buckets.specs.Chain.{padded}
 use Rattle.cell_map.specs.Map.{Bits, placeOf}
+use Rattle.cell_map.specs.Fits.{ceil8}
 use Rattle.standard_text.specs.Header.{headerAt}
 use Rattle.standard_text.specs.Index.{noSet}
 use Rattle.standard_rules.specs.declared.Checked.{Checked}
 use Rattle.standard_rules.specs.Rules.{textOf, mapOf, checkedAs}
+use Rattle.incremental_rules.specs.declared.Checked.{Checked as IncrementalChecked}
+use Rattle.incremental_rules.specs.Rules.{checkedAs as incrementalAs}
+use Rattle.incremental_rules.specs.Places.{placeOf as incrementalPlace}
 use Rattle.lookup_rules.specs.declared.Plan.{Plan}
 use Rattle.lookup_rules.specs.declared.Question.{Question}
 use Rattle.lookup_rules.specs.declared.Question.the-variants.{Check, Prepare, Place, PlacePlanned, View, ViewPlanned}
 use Rattle.lookup_rules.specs.declared.Target.{Target}
+use Rattle.lookup_rules.specs.declared.FileChecked.{FileChecked}
 use Rattle.lookup_rules.specs.declared.Staged.{Staged}
 use Rattle.lookup_rules.specs.declared.Answer.{Answer}
 use Rattle.lookup_rules.specs.declared.Verdict.{Verdict}
@@ -89,10 +93,25 @@ unfoldable pub kindWith : List Manager → ℕ → ℕ → Kind
 kindWith managers count sequence =
     getD managers (firstBelow (λ (k : ℕ). eqb (getD managers k noManager .number) sequence) count) noManager .kind
 
-abbrev pub isStandard : Kind → Bool
-isStandard Other = false
-isStandard Standard = true
-isStandard Incremental = false
+abbrev pub isIncremental : Kind → Bool
+isIncremental Other = false
+isIncremental Standard = false
+isIncremental Incremental = true
+
+-- "For a column of type String, arrays too, .. plan, place and view give 8"; a check asks for no column
+abbrev pub isPlaced : Question → ℕ → Bool
+isPlaced (Check n) datatype = true
+isPlaced (Prepare c) datatype = not (eqb datatype 11)
+isPlaced (Place row c) datatype = not (eqb datatype 11)
+isPlaced (PlacePlanned row p) datatype = not (eqb datatype 11)
+isPlaced (View row c) datatype = not (eqb datatype 11)
+isPlaced (ViewPlanned row p) datatype = not (eqb datatype 11)
+
+-- whether a question can be asked of a manager of a kind; "columns of other kinds are described, and have no place"
+abbrev pub isHeld : Kind → Bool → Bool
+isHeld Other placed = false
+isHeld Standard placed = true
+isHeld Incremental placed = placed
 
 -- "no such column or manager, or the manager is not of the asked kind": 8
 unfoldable pub targetOf : Description → Question → Target
@@ -103,26 +122,54 @@ targetOf d q = do
   own ← bindingAt d position .sequence
   sequence ← sequenceOf q own
   kind ← kindWith (d .managers) (d .«manager_count») sequence
-  known ← isStandard kind
-  r2 ← r1 ▷ orNo known 8
-  record { refused = r2; position = position; sequence = sequence }
+  c ← getD (d .columns) position blank
+  placed ← isPlaced q (c .datatype .number)
+  held ← isHeld kind placed
+  r2 ← r1 ▷ orNo held 8
+  incremental ← isIncremental kind
+  record { refused = r2; position = position; sequence = sequence; incremental = incremental }
+
+-- the check of the manager's file, by its kind
+abbrev pub ofStandard : Checked → FileChecked
+ofStandard m = record { refused = m .refused; size = m .size; sets = m .sets; first = 0 }
+
+abbrev pub ofIncremental : IncrementalChecked → FileChecked
+ofIncremental m = record { refused = m .refused; size = m .size; sets = replicate 16 noSet; first = m .first }
+
+unfoldable pub fileOf : Description → Target → List ℕ → ℕ → ℕ → FileChecked
+fileOf d g f row l =
+    let standard = ofStandard (checkedAs d (g .sequence) f (g .refused) l) in
+    let incremental = ofIncremental (incrementalAs d (g .sequence) f (g .refused) (g .position) row) in
+    cond (g .incremental) incremental standard
+
+-- "0, 0, 0 and bucket size for IncrementalStMan"
+abbrev pub ifStandard : Bool → ℕ → ℕ
+ifStandard incremental n = cond incremental 0 n
+
+-- "Cells take ceiling(bits / 8) x 8 bits, in the plan too": those of IncrementalStMan
+abbrev pub bitsIn : Bool → ℕ → ℕ
+bitsIn incremental bits = cond incremental (8 * ceil8 bits) bits
 
 -- "a plain record of position, sequence number, data type, element count, cell bits, set, offset, rows per bucket and bucket
 -- size", of the column at a position now
-unfoldable pub planFor : Description → Checked → ℕ → Plan
-planFor d m position = do
+unfoldable pub planFor : Description → Bool → FileChecked → ℕ → Plan
+planFor d incremental m position = do
   c ← getD (d .columns) position blank
   b ← getD (d .bindings) position noBinding
   s ← getD (m .sets) (b .set) noSet
+  bits ← bitsIn incremental (c .bits)
+  set ← ifStandard incremental (b .set)
+  offset ← ifStandard incremental (b .offset)
+  per ← ifStandard incremental (s .per)
   record {
     position = position;
     sequence = b .sequence;
     datatype = c .datatype .number;
     elements = c .elements;
-    bits = c .bits;
-    set = b .set;
-    offset = b .offset;
-    per = s .per;
+    bits = bits;
+    set = set;
+    offset = offset;
+    per = per;
     size = m .size;
   }
 
@@ -156,30 +203,38 @@ isBelow (PlacePlanned row p) rows = ltb row rows
 isBelow (View row c) rows = ltb row rows
 isBelow (ViewPlanned row p) rows = ltb row rows
 
--- "view of a Bool column, scalar or any array": 14
-abbrev pub isSeen : Question → ℕ → Bool
-isSeen (Check n) datatype = true
-isSeen (Prepare c) datatype = true
-isSeen (Place row c) datatype = true
-isSeen (PlacePlanned row p) datatype = true
-isSeen (View row c) datatype = not (eqb datatype 0)
-isSeen (ViewPlanned row p) datatype = not (eqb datatype 0)
+-- "view of a Bool column, scalar or any array, in StandardStMan": 14
+abbrev pub isSeen : Question → Bool → ℕ → Bool
+isSeen (Check n) incremental datatype = true
+isSeen (Prepare c) incremental datatype = true
+isSeen (Place row c) incremental datatype = true
+isSeen (PlacePlanned row p) incremental datatype = true
+isSeen (View row c) incremental datatype = incremental || not (eqb datatype 0)
+isSeen (ViewPlanned row p) incremental datatype = incremental || not (eqb datatype 0)
 
 -- "Order: table, manager and column (8), file check, plan (12), row (9), 14."
 unfoldable pub stagesOf : List ℕ → List ℕ → Question → ℕ → Staged
 stagesOf t f q l = do
   d ← describedAs t
   g ← targetOf d q
-  m ← checkedAs d (g .sequence) f (g .refused) l
-  p ← planFor d m (g .position)
+  row ← rowOf q
+  m ← fileOf d g f row l
+  p ← planFor d (g .incremental) m (g .position)
   s ← getD (m .sets) (p .set) noSet
   fresh ← isFresh q p
   r1 ← m .refused ▷ orNo fresh 12
   below ← isBelow q (d .rows)
   r2 ← r1 ▷ orNo below 9
-  seen ← isSeen q (p .datatype)
+  seen ← isSeen q (g .incremental) (p .datatype)
   r3 ← r2 ▷ orNo seen 14
-  record { refused = r3; plan = p; sequence = g .sequence; set = s }
+  record { refused = r3; plan = p; sequence = g .sequence; incremental = g .incremental; set = s; first = m .first }
+
+-- the place of a cell in the file of the manager with a sequence number, by the manager's kind
+unfoldable pub placeIn : Description → Bool → ℕ → List ℕ → ℕ → ℕ → Bits
+placeIn d incremental sequence f row position =
+    let there = incrementalPlace d sequence f position row in
+    let here = placeOf (mapOf d sequence f) row position in
+    cond incremental there here
 
 -- the bits that a question asks for; a check and a plan ask for none
 abbrev pub bitsFor : Question → Bits → Bits
@@ -203,12 +258,14 @@ answered s b =
 unfoldable pub answerOf : List ℕ → List ℕ → Question → ℕ → Answer
 answerOf t f q l =
     let s = stagesOf t f q l in
-    answered s (bitsFor q (placeOf (mapOf (describedAs t) (s .sequence) f) (rowOf q) (positionOf q)))
+    answered s (bitsFor q (placeIn (describedAs t) (s .incremental) (s .sequence) f (rowOf q) (positionOf q)))
 
--- "It is all zero after every refusal; after acceptance in StandardStMan it holds the index text, then zeros."
+-- "It is all zero after every refusal and for every IncrementalStMan file; after acceptance in StandardStMan it holds the index
+-- text, then zeros."
 unfoldable pub roomAfter : List ℕ → List ℕ → Question → ℕ → List ℕ
 roomAfter t f q l =
-    cond (eqb (stagesOf t f q l .refused) 0)
+    let s = stagesOf t f q l in
+    cond (eqb (s .refused) 0 && not (s .incremental))
     (padded l (textOf f (headerAt f (describedAs t .big))))
     (replicate l 0)
 

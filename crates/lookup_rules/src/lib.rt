@@ -33,20 +33,32 @@ pub enum Asked {
     Planned(Plan),
 }
 
-// The column and the manager that a question is about, and the refusal so far.
+// The column and the manager that a question is about, whether that is an IncrementalStMan, and the refusal so far.
 pub struct Target {
     pub refused: usize,
     pub position: usize,
     pub sequence: usize,
+    pub incremental: bool,
 }
 
-// The refusal after all stages, the fresh plan, the manager's sequence number, and where the column's set stands in the index
-// text.
+// What the check of the manager's file tells: the bucket size; of a StandardStMan file where its sets stand in the index text,
+// of an IncrementalStMan file where the cell that is asked for begins. Zeros and the number where it is refused.
+pub struct FileChecked {
+    pub refused: usize,
+    pub size: usize,
+    pub sets: [Set; 16],
+    pub first: usize,
+}
+
+// The refusal after all stages, the fresh plan, the manager's sequence number and whether it is an IncrementalStMan; where the
+// column's set stands in the index text, or where the cell of an IncrementalStMan file begins.
 pub struct Staged {
     pub refused: usize,
     pub plan: Plan,
     pub sequence: usize,
+    pub incremental: bool,
     pub set: Set,
+    pub first: usize,
 }
 
 // The number and zeros; or 0, the plan, and for a place or a view the first bit and the bit count.

@@ -11,7 +11,7 @@ use standard_text::Set;
 // A set without entries has no cells, and gives 0.
 pub fn first_bit(text: &[u8], s: Set, size: usize, offset: usize, bits: usize, row: usize) -> usize
     requires { ⌜ SetInside (length (now text)) 4 s ⌝ }
-    requires { ⌜ (size ≤ 1048576) × (offset < 4294967296) × (bits < 4294967296) × (row ≤ 2147483647) ⌝ }
+    requires { ⌜ (size ≤ 1048576) × (offset < 4294967296) × (bits ≤ 4294967296) × (row ≤ 2147483647) ⌝ }
     ensures { λ r. ⌜ (0 < s .entries → r ≡ bitOf (now (text .entry)) s size offset bits row) ⌝ }
 {
     let n = s.entries;

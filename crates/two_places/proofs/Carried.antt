@@ -53,7 +53,7 @@ pub carried : (t f : List ℕ) (l l′ row row′ : ℕ) (a a′ : Asked) {p p�
     → p′ ≡ placedOf (answerOf t f (question row′ a′) l′)
     → Demanded t f row a p row′ a′ p′
 carried t f l l′ row row′ a a′ e e′ = record {
-  holds = λ sequence first count first′ count′ k k′ h h′.
+  holds = λ sequence first count first′ count′ i k k′ h h′.
       rw (← (same-bits _ first count (sym e ∙ h)), ← (same-bits _ first′ count′ (sym e′ ∙ h′)))
-      (places t f sequence l l′ row row′ a a′ k k′ (unrefused _ first count (sym e ∙ h)) (unrefused _ first′ count′ (sym e′ ∙ h′)));
+      (places t f sequence l l′ row row′ a a′ i k k′ (unrefused _ first count (sym e ∙ h)) (unrefused _ first′ count′ (sym e′ ∙ h′)));
 }

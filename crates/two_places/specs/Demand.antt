@@ -8,11 +8,11 @@ use Rattle.standard_rules.specs.Rules.{mapOf}
 use Rattle.lookup_rules.specs.declared.Asked.{Asked}
 use Rattle.lookup_rules.specs.declared.Placed.{Placed}
 use Rattle.lookup_rules.specs.declared.Placed.the-variants.{At}
-use Rattle.lookup_rules.specs.Demand.{columnOf, carries}
+use Rattle.lookup_rules.specs.Demand.{columnOf, carries, inStandard}
 
--- where both are placed and both columns carry the sequence number
+-- where both are placed, both columns carry the sequence number, and the manager is a StandardStMan
 pub record Demanded (t f : List ℕ) (row : ℕ) (a : Asked) (p : Placed) (row′ : ℕ) (a′ : Asked) (p′ : Placed) : Type 0 where
-  pub holds : (sequence first count first′ count′ : ℕ) → carries t a sequence → carries t a′ sequence → p ≡ At first count → p′ ≡ At first′ count′
+  pub holds : (sequence first count first′ count′ : ℕ) → inStandard t sequence → carries t a sequence → carries t a′ sequence → p ≡ At first count → p′ ≡ At first′ count′
       → Demand3 (mapOf (describedAs t) sequence f)
       (record { first = first; count = count })
       (record { first = first′; count = count′ })

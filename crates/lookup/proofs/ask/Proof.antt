@@ -11,9 +11,9 @@ cell-bit-requires c κs = findable-by _ _ _ _ (c .before .before .before .stages
 
 returns : tie.Need-returns
 returns c = (
-  answer-by _ _ _ _ (c .before .before .before .before .before .before .before .before .before .stages .ensures .0 .0) (c .before .before .before .before .before .before .before .before .before .stages .ensures .0 .1) (c .before .before .before .before .before .cell-bit .ensures) (c .answer .ensures),
-  room-is _ _ _ _ (c .before .before .before .before .before .before .before .before .before .stages .ensures .0 .0) (c .before .before .before .before .before .before .before .before .before .stages .ensures .0 .1) (c .before .before .before .before .before .before .before .before .before .stages .kept .1 .1 .1 .0) (c .before .before .before .settle .ensures),
+  answer-by _ _ _ _ (c .before .before .before .before .before .before .before .before .before .before .stages .ensures .0 .0) (c .before .before .before .before .before .before .before .before .before .before .stages .ensures .0 .1) (c .before .before .before .before .before .before .cell-bit .ensures) (c .answer .ensures),
+  room-is _ _ _ _ (c .before .before .before .before .before .before .before .before .before .before .stages .ensures .0 .0) (c .before .before .before .before .before .before .before .before .before .before .stages .ensures .0 .1) (c .before .before .before .before .before .before .before .before .before .before .stages .kept .1 .1 .1 .0) (c .before .before .before .before .before .keeps-text .ensures) (c .before .before .before .settle .ensures),
 )
 
 pub ask-spec : {M : Type 1} → statement M
-ask-spec = tie.close (tie.spec free cell-bit-requires free free (λ c. search needs) returns)
+ask-spec = tie.close (tie.spec free cell-bit-requires free free free (λ c. search needs) returns)

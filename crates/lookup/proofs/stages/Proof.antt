@@ -11,9 +11,10 @@ returns : tie.Need-returns
 unfolding stagesOf
 returns c = (
   (
-    via _ (c .before .before .before .before .before .before .before .before .before .before .before .before .before .before .describe .ensures .0)
-        (via _ (c .before .before .before .before .before .before .before .before .before .before .before .before .before .find-target .ensures)
-        (via _ (c .before .before .before .before .before .before .before .before .before .before .before .check .ensures .0)
+    via _ (c .before .before .before .before .before .before .before .before .before .before .before .before .before .before .before .describe .ensures .0)
+        (via _ (c .before .before .before .before .before .before .before .before .before .before .before .before .before .before .find-target .ensures)
+        (via _ (c .before .before .before .before .before .before .before .before .before .before .before .before .before .row-of .ensures)
+        (via _ (c .before .before .before .before .before .before .before .before .before .before .before .check-file .ensures .0)
         (via _ (c .before .before .before .before .before .before .before .before .plan-for .ensures .0)
         (via _ (c .before .before .before .before .before .before .set-at .ensures)
         (via _ (c .before .before .before .before .before .fresh .ensures)
@@ -22,8 +23,8 @@ returns c = (
         (via _ (c .before .before .stage2 .ensures)
         (via _ (c .before .seen .ensures)
         (via _ (c .stage3 .ensures)
-        refl)))))))))),
-    λ z. room-text _ _ _ (c .before .before .before .before .before .before .before .before .before .before .before .before .before .before .describe .ensures .0) (c .before .before .before .before .before .before .before .before .before .before .before .check .ensures .1 (passed _ _ _ _ (c .before .before .before .before .stage .ensures) (c .before .before .stage2 .ensures) (c .stage3 .ensures) z)),
+        refl))))))))))),
+    λ z k. room-text _ _ _ (c .before .before .before .before .before .before .before .before .before .before .before .before .before .before .before .describe .ensures .0) (c .before .before .before .before .before .before .before .before .before .before .before .check-file .ensures .1 (passed _ _ _ _ (c .before .before .before .before .stage .ensures) (c .before .before .stage2 .ensures) (c .stage3 .ensures) z) k),
   ),
   c .before .before .before .before .before .before .before .before .plan-for .ensures .1,
 )
@@ -34,6 +35,7 @@ stages-spec =
     (tie.spec
     free
     (λ c κs. search needs)
+    free
     (λ c κs. search needs)
     free
     free

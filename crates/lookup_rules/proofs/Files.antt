@@ -1,0 +1,104 @@
+-- The check of a manager's file, by its kind. Its refusal, the bucket size and the sets do not depend on the row that is asked for.
+-- Assumes nothing.
+use mathlib.Core.Path.{_≡_, refl, sym, ap, _∙_}
+use mathlib.Core.List.{List}
+use mathlib.Core.Bool.{Bool, true, false, cond}
+use Prim.Native.Nat.{ℕ}
+use native.Mathlib.Decide.{ℕ-discrete}
+use borrow.Author.Tests.{eq-eqb, ne-eqb}
+use Rattle.bytes_at.specs.Steps.{_>>=_}
+use Rattle.bytes_at.proofs.Stages.{then-left}
+use Rattle.table.specs.declared.Description.{Description}
+use Rattle.standard_rules.specs.Rules.{refusalOf, checkedAs}
+use Rattle.incremental_rules.specs.Rules.{refusalOf as incrementalRefusal, checkedAs as incrementalAs}
+use Rattle.lookup_rules.specs.declared.Target.{Target}
+use Rattle.lookup_rules.specs.declared.FileChecked.{FileChecked}
+use Rattle.lookup_rules.specs.declared.Plan.{Plan}
+use Rattle.lookup_rules.specs.Questions.{ofStandard, ofIncremental, fileOf, planFor}
+
+check-passed : (d : Description) (sequence : ℕ) (f : List ℕ) (refused l : ℕ) → checkedAs d sequence f refused l .refused ≡ refusalOf d sequence f refused l
+unfolding checkedAs
+check-passed d sequence f refused l = elim (ℕ-discrete (refusalOf d sequence f refused l) 0) [
+  | yes e ↦ rw (eq-eqb (refusalOf d sequence f refused l) 0 e) (sym e)
+  | no n ↦ rw (ne-eqb (refusalOf d sequence f refused l) 0 n)
+]
+
+module _ (d : Description) (sequence : ℕ) (f : List ℕ) (refused position : ℕ) where
+  incremental-passed : (row : ℕ) → incrementalAs d sequence f refused position row .refused ≡ incrementalRefusal d sequence f refused
+  unfolding incrementalAs
+  incremental-passed row = elim (ℕ-discrete (incrementalRefusal d sequence f refused) 0) [
+    | yes e ↦ rw (eq-eqb (incrementalRefusal d sequence f refused) 0 e) (sym e)
+    | no n ↦ rw (ne-eqb (incrementalRefusal d sequence f refused) 0 n)
+  ]
+
+  incremental-size : (row row′ : ℕ) → incrementalAs d sequence f refused position row .size ≡ incrementalAs d sequence f refused position row′ .size
+  unfolding incrementalAs
+  incremental-size row row′ = elim (ℕ-discrete (incrementalRefusal d sequence f refused) 0) [
+    | yes e ↦ rw (eq-eqb (incrementalRefusal d sequence f refused) 0 e)
+    | no n ↦ rw (ne-eqb (incrementalRefusal d sequence f refused) 0 n)
+  ]
+
+-- ---- the same in one of two ways
+cond-refused : (b : Bool) (x x′ y : FileChecked) → x .refused ≡ x′ .refused → cond b x y .refused ≡ cond b x′ y .refused
+cond-refused true x x′ y e = e
+cond-refused false x x′ y e = refl
+
+cond-size : (b : Bool) (x x′ y : FileChecked) → x .size ≡ x′ .size → cond b x y .size ≡ cond b x′ y .size
+cond-size true x x′ y e = e
+cond-size false x x′ y e = refl
+
+cond-sets : (b : Bool) (x x′ y : FileChecked) → x .sets ≡ x′ .sets → cond b x y .sets ≡ cond b x′ y .sets
+cond-sets true x x′ y e = e
+cond-sets false x x′ y e = refl
+
+module _ (d : Description) (g : Target) (f : List ℕ) (l : ℕ) where
+  pub file-standard : g .incremental ≡ false → (row : ℕ) → fileOf d g f row l ≡ ofStandard (checkedAs d (g .sequence) f (g .refused) l)
+  unfolding fileOf
+  file-standard e row = rw e
+
+  pub file-incremental : g .incremental ≡ true → (row : ℕ)
+      → fileOf d g f row l ≡ ofIncremental (incrementalAs d (g .sequence) f (g .refused) (g .position) row)
+  unfolding fileOf
+  file-incremental e row = rw e
+
+  pub standard-refused : g .incremental ≡ false → (row : ℕ) → fileOf d g f row l .refused ≡ refusalOf d (g .sequence) f (g .refused) l
+  standard-refused e row = ap (λ (m : FileChecked). m .refused) (file-standard e row) ∙ check-passed d (g .sequence) f (g .refused) l
+
+  pub incremental-refused : g .incremental ≡ true → (row : ℕ) → fileOf d g f row l .refused ≡ incrementalRefusal d (g .sequence) f (g .refused)
+  incremental-refused e row =
+      ap (λ (m : FileChecked). m .refused) (file-incremental e row) ∙ incremental-passed d (g .sequence) f (g .refused) (g .position) row
+
+  -- whatever row is asked for
+  pub row-refused : (row row′ : ℕ) → fileOf d g f row l .refused ≡ fileOf d g f row′ l .refused
+  unfolding fileOf
+  row-refused row row′ =
+      cond-refused (g .incremental) _ _ _
+      (incremental-passed d (g .sequence) f (g .refused) (g .position) row ∙ sym (incremental-passed d (g .sequence) f (g .refused) (g .position) row′))
+
+  row-size : (row row′ : ℕ) → fileOf d g f row l .size ≡ fileOf d g f row′ l .size
+  unfolding fileOf
+  row-size row row′ = cond-size (g .incremental) _ _ _ (incremental-size d (g .sequence) f (g .refused) (g .position) row row′)
+
+  row-sets : (row row′ : ℕ) → fileOf d g f row l .sets ≡ fileOf d g f row′ l .sets
+  unfolding fileOf
+  row-sets row row′ = cond-sets (g .incremental) _ _ _ refl
+
+  pub row-plan : (position row row′ : ℕ) → planFor d (g .incremental) (fileOf d g f row l) position ≡ planFor d (g .incremental) (fileOf d g f row′ l) position
+  unfolding planFor _>>=_
+  row-plan position row row′ = rw (row-size row row′, row-sets row row′)
+
+  -- a file that is not refused has a manager and a column
+  incremental-target : g .incremental ≡ true → (row : ℕ) → fileOf d g f row l .refused ≡ 0 → g .refused ≡ 0
+  unfolding incrementalRefusal
+  incremental-target e row h = then-left _ _ (sym (incremental-refused e row) ∙ h)
+
+  standard-target : g .incremental ≡ false → (row : ℕ) → fileOf d g f row l .refused ≡ 0 → g .refused ≡ 0
+  unfolding refusalOf
+  standard-target e row h = then-left _ _ (sym (standard-refused e row) ∙ h)
+
+  either-target : (b : Bool) → g .incremental ≡ b → (row : ℕ) → fileOf d g f row l .refused ≡ 0 → g .refused ≡ 0
+  either-target true e row h = incremental-target e row h
+  either-target false e row h = standard-target e row h
+
+  pub target-passed : (row : ℕ) → fileOf d g f row l .refused ≡ 0 → g .refused ≡ 0
+  target-passed row h = either-target (g .incremental) refl row h
