@@ -39,10 +39,11 @@ use Rattle.lookup_rules.specs.declared.Answer.{Answer}
 use Rattle.lookup_rules.specs.Questions.{rowOf, positionOf, asksCell, bindingAt, targetOf, fileOf, planFor, stagesOf, placeIn, bitsFor, noPlan, answered, answerOf}
 use Rattle.lookup_rules.proofs.CellAsked.{cell-sequence, cell-column, cell-row, bits-for}
 use Rattle.lookup_rules.proofs.Columns.{column-kept}
+use Rattle.lookup_rules.proofs.Described.{rows-most, columns-most}
 use Rattle.lookup_rules.proofs.Files.{file-standard, file-incremental, standard-refused, incremental-refused, target-passed}
 use Rattle.lookup_rules.proofs.Stages.{check-of, row-passed, stages-sequence, stages-kind, target-column, target-sequence, target-position, stages-plan, stages-set, stages-first}
 use Rattle.lookup.specs.Lookup.{Findable, cellBit, answerWith}
-use Rattle.lookup.proofs.Placing.{sets-told, size-told, set-known, set-same, set-covered, set-inside, size-most, column-same, rows-most, columns-most}
+use Rattle.lookup.proofs.Placing.{sets-told, size-told, set-known, set-same, set-covered, set-inside, size-most, column-same}
 
 -- a set that lies in a text lies in a longer one
 longer : {a b : ℕ} {x : Set} → a ≤ b → SetInside a 4 x → SetInside b 4 x

@@ -2,22 +2,17 @@
 -- Assumes nothing.
 use mathlib.Core.Path.{_≡_, refl, sym, ap, _∙_}
 use mathlib.Core.List.{List}
-use mathlib.Core.Bool.{Bool, true, false, cond}
-use Prim.Native.Nat.{ℕ, _≤_, _<_, zero-le}
+use Prim.Native.Nat.{ℕ, _≤_, _<_}
 use native.Mathlib.Omega.{arith}
-use lib.Dec.{T, eqb}
+use lib.Dec.{T}
 use lib.ListN.{length, getD}
 use borrow.Author.Tests.{eq-eqb}
 use Rattle.bytes_at.specs.Stages.{_▷_, orNo}
 use Rattle.bytes_at.specs.declared.Width.the-variants.{Four}
 use Rattle.bytes_at.proofs.Stages.{then-left, then-right, or-passed}
-use Rattle.bytes_at.specs.Steps.{_>>=_}
-use Rattle.aipsio.specs.declared.Cursor.{Cursor}
-use Rattle.aipsio.proofs.Bounds.{ranged-le}
 use Rattle.column_desc.specs.ColumnDesc.{blank}
 use Rattle.column_set.specs.ColumnSet.{noBinding}
 use Rattle.table.specs.declared.Description.{Description}
-use Rattle.table.specs.Table.{headAt, descHeadAt, describedAs, refusedWith}
 use Rattle.cell_map.specs.Map.{noColumn, columnAt, setAt, setOf as mapSetOf, noSet as noMapSet}
 use Rattle.cell_map.specs.Fits.{fits, covers}
 use Rattle.cell_map.specs.Demand.{Kept}
@@ -81,49 +76,3 @@ module _ (d : Description) (sequence : ℕ) (f : List ℕ) (refused l : ℕ) whe
       → columnAt (mapOf d sequence f) c ≡ columnOf sequence (getD (d .columns) c blank) (getD (d .bindings) c noBinding)
   unfolding mapOf
   column-same c h = columns-at sequence _ _ noColumn _ c h
-
--- ---- the row count and the column count
-head-most : (s : List ℕ) (c : Cursor) → headAt s c .rows ≤ 2147483647
-unfolding headAt _>>=_
-head-most s c = ranged-le s c 4 0 2147483647 3
-
-count-most : (s : List ℕ) (c : Cursor) → descHeadAt s c .count ≤ 64
-unfolding descHeadAt _>>=_
-count-most s c = ranged-le s _ 4 1 64 3
-
--- a number of a description, of one of two, and of one that is refused
-module _ (number : Description → ℕ) (most : ℕ) where
-  either : (b : Bool) (x y : Description) → number x ≤ most → number y ≤ most → number (cond b x y) ≤ most
-  either true x y h k = h
-  either false x y h k = k
-
-  -- a line of the definition
-  line : {A : Type 0} (a : A) (next : A → Description) → ((x : A) → x ≡ a → number (next x) ≤ most) → number (a >>= next) ≤ most
-  unfolding _>>=_
-  line a next h = h a refl
-
-refused-rows : (n : ℕ) → refusedWith n .rows ≤ 2147483647
-unfolding refusedWith
-refused-rows n = zero-le
-
-refused-columns : (n : ℕ) → refusedWith n .«column_count» ≤ 64
-unfolding refusedWith
-refused-columns n = zero-le
-
-pub rows-most : (t : List ℕ) → describedAs t .rows ≤ 2147483647
-unfolding describedAs
-rows-most t =
-    let rows : Description → ℕ = λ d. d .rows in
-    line rows _ _ _ (λ c _. line rows _ _ _ (λ m _. line rows _ _ _ (λ u _. line rows _ _ _ (λ head e. line rows _ _ _ (λ o _. line rows _ _ _ (λ n _.
-    line rows _ _ _ (λ cs _. line rows _ _ _ (λ end _. line rows _ _ _ (λ set _. line rows _ _ _ (λ ms _. line rows _ _ _ (λ os _.
-    line rows _ _ _ (λ is _. line rows _ _ _ (λ d _. line rows _ _ _ (λ bs _.
-    either rows _ (eqb (d .refused) 0) _ _ (rw e (head-most t (u .next))) (refused-rows (d .refused))))))))))))))))
-
-pub columns-most : (t : List ℕ) → describedAs t .«column_count» ≤ 64
-unfolding describedAs
-columns-most t =
-    let count : Description → ℕ = λ d. d .«column_count» in
-    line count _ _ _ (λ c _. line count _ _ _ (λ m _. line count _ _ _ (λ u _. line count _ _ _ (λ head _. line count _ _ _ (λ o _. line count _ _ _ (λ n e.
-    line count _ _ _ (λ cs _. line count _ _ _ (λ end _. line count _ _ _ (λ set _. line count _ _ _ (λ ms _. line count _ _ _ (λ os _.
-    line count _ _ _ (λ is _. line count _ _ _ (λ d _. line count _ _ _ (λ bs _.
-    either count _ (eqb (d .refused) 0) _ _ (rw e (count-most t (o .next))) (refused-columns (d .refused))))))))))))))))

@@ -3,7 +3,9 @@ pub mod Columns
 pub mod CellAsked
 pub mod Files
 pub mod Stages
+pub mod Described
 pub mod Places
+pub mod IncrementalPlaces
 pub mod Low
 pub mod Refusals
 pub mod Plans

@@ -2,11 +2,14 @@
 use Prim.Native.Nat.{ℕ}
 use mathlib.Core.Path.{_≡_}
 use mathlib.Core.List.{List}
-use Rattle.column_set.specs.declared.Kind.the-variants.{Standard}
+use Rattle.column_set.specs.declared.Kind.the-variants.{Standard, Incremental}
 use Rattle.table.specs.Table.{describedAs}
 use Rattle.cell_map.specs.Map.{Bits}
 use Rattle.cell_map.specs.Demand.{Demand3}
 use Rattle.standard_rules.specs.Rules.{mapOf}
+use Rattle.incremental_text.specs.Header.{headerAt as incrementalHeader}
+use Rattle.incremental_rules.specs.Rules.{indexOf}
+use Rattle.incremental_rules.specs.Places.{Safe}
 use Rattle.lookup_rules.specs.declared.Asked.{Asked}
 use Rattle.lookup_rules.specs.declared.Asked.the-variants.{Position, Planned}
 use Rattle.lookup_rules.specs.declared.Question.{Question}
@@ -51,3 +54,22 @@ Places =
     (columnOf a)
     row′
     (columnOf a′)
+
+-- the manager with the sequence number is an IncrementalStMan
+abbrev pub inIncremental : List ℕ → ℕ → Type 0
+inIncremental t sequence = kindWith (describedAs t .managers) (describedAs t .«manager_count») sequence ≡ Incremental
+
+-- What holds of every unrefused answer of Place in IncrementalStMan: the place lies wholly inside the data part of the bucket that
+-- the index gives to its row, off the header, off every free bucket and off the ISMIndex.
+abbrev pub SafeThere : List ℕ → List ℕ → Bits → ℕ → Type 0
+SafeThere t f place row =
+    let h = incrementalHeader f (describedAs t .big) in
+    Safe (describedAs t .big) f h (indexOf f h) place row
+
+abbrev pub PlacesThere : Type 0
+PlacesThere =
+    (t f : List ℕ) (sequence l row : ℕ) (a : Asked)
+    → inIncremental t sequence
+    → carries t a sequence
+    → answerOf t f (question row a) l .refused ≡ 0
+    → SafeThere t f (bitsOf (answerOf t f (question row a) l)) row

@@ -14,7 +14,8 @@ use Rattle.lookup_rules.specs.declared.Placed.the-variants.{At, Refused}
 use Rattle.lookup_rules.specs.Questions.{answerOf, placedOf}
 use Rattle.lookup_rules.specs.Demand.{question, bitsOf}
 use Rattle.lookup_rules.proofs.Places.{places}
-use Rattle.two_places.specs.Demand.{Demanded}
+use Rattle.lookup_rules.proofs.IncrementalPlaces.{places-there}
+use Rattle.two_places.specs.Demand.{Demanded, PlacedThere}
 
 -- the numbers of a place
 abbrev isPlace : Placed → ℕ
@@ -57,3 +58,17 @@ carried t f l l′ row row′ a a′ e e′ = record {
       rw (← (same-bits _ first count (sym e ∙ h)), ← (same-bits _ first′ count′ (sym e′ ∙ h′)))
       (places t f sequence l l′ row row′ a a′ i k k′ (unrefused _ first count (sym e ∙ h)) (unrefused _ first′ count′ (sym e′ ∙ h′)));
 }
+
+-- and the same of one place in IncrementalStMan
+pub carried-there : (t f : List ℕ) (l row : ℕ) (a : Asked) {p : Placed} → p ≡ placedOf (answerOf t f (question row a) l) → PlacedThere t f row a p
+carried-there t f l row a e = record {
+  safe = λ sequence first count i k h.
+      rw (← (same-bits _ first count (sym e ∙ h))) (places-there t f sequence l row a i k (unrefused _ first count (sym e ∙ h)));
+}
+
+-- `place_by`: an arm's call is the question that is asked
+pub by-arm : (t f : List ℕ) (l row : ℕ) (a b : Asked) {p : Placed} → a ≡ b → p ≡ placedOf (answerOf t f (question row b) l)
+    → (p ≡ placedOf (answerOf t f (question row a) l)) × PlacedThere t f row a p
+by-arm t f l row a b {p} e h =
+    let x : p ≡ placedOf (answerOf t f (question row a) l) = h ∙ ap (λ (k : Asked). placedOf (answerOf t f (question row k) l)) (sym e) in
+    (x, carried-there t f l row a x)

@@ -1,4 +1,5 @@
--- Demand 3 (document 01, "What graders settle"), of what Place answers.
+-- What holds of the answers of Place: demand 3 (document 01, "What graders settle") in StandardStMan, and what holds in
+-- IncrementalStMan.
 use Prim.Native.Nat.{ℕ}
 use mathlib.Core.Path.{_≡_}
 use mathlib.Core.List.{List}
@@ -8,7 +9,7 @@ use Rattle.standard_rules.specs.Rules.{mapOf}
 use Rattle.lookup_rules.specs.declared.Asked.{Asked}
 use Rattle.lookup_rules.specs.declared.Placed.{Placed}
 use Rattle.lookup_rules.specs.declared.Placed.the-variants.{At}
-use Rattle.lookup_rules.specs.Demand.{columnOf, carries, inStandard}
+use Rattle.lookup_rules.specs.Demand.{columnOf, carries, inStandard, inIncremental, SafeThere}
 
 -- where both are placed, both columns carry the sequence number, and the manager is a StandardStMan
 pub record Demanded (t f : List ℕ) (row : ℕ) (a : Asked) (p : Placed) (row′ : ℕ) (a′ : Asked) (p′ : Placed) : Type 0 where
@@ -20,3 +21,8 @@ pub record Demanded (t f : List ℕ) (row : ℕ) (a : Asked) (p : Placed) (row�
       (columnOf a)
       row′
       (columnOf a′)
+
+-- where a cell of an IncrementalStMan file is placed
+pub record PlacedThere (t f : List ℕ) (row : ℕ) (a : Asked) (p : Placed) : Type 0 where
+  pub safe : (sequence first count : ℕ) → inIncremental t sequence → carries t a sequence → p ≡ At first count
+      → SafeThere t f (record { first = first; count = count }) row

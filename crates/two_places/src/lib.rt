@@ -4,7 +4,7 @@ ghost use mathlib.Core.Path.{_≡_};
 ghost use lib.ListN.{length};
 ghost use Rattle.lookup_rules.specs.Questions.{answerOf, placedOf};
 ghost use Rattle.lookup_rules.specs.Demand.{question};
-ghost use Rattle.two_places.specs.Demand.{Demanded};
+ghost use Rattle.two_places.specs.Demand.{Demanded, PlacedThere};
 use lookup_rules::Asked;
 use lookup_rules::Placed;
 
@@ -13,9 +13,11 @@ pub struct Two {
     pub other: Placed,
 }
 
-// Place, as it is asked.
+// Place, as it is asked. In IncrementalStMan the place lies wholly inside the data part of the bucket that the index gives to its
+// row, off the header, off every free bucket and off the ISMIndex.
 pub fn place_by(table: &[u8], file: &[u8], row: usize, asked: Asked, room: &mut [u8]) -> Placed
     ensures { λ r. ⌜ r ≡ placedOf (answerOf (now (table .entry)) (now (file .entry)) (question row asked) (length (now (room .entry)))) ⌝ }
+    ensures there { λ r. ⌜ PlacedThere (now (table .entry)) (now (file .entry)) row asked r ⌝ }
 {
     match asked {
         Asked::Position(position) => lookup::place(table, file, row, position, room),

@@ -1,6 +1,8 @@
 -- `two_places::place_by` meets its contract.
 use borrow.Author.Needs.{needs}
 use Rattle.bytes_at.proofs.Stepped.{free}
+use Rattle.lookup_rules.specs.declared.Asked.the-variants.{Position, Planned}
+use Rattle.two_places.proofs.Carried.{by-arm}
 use Rattle.two_places.proofs.place_by.Statement.{statement}
 use Rattle.two_places.proofs.place_by.Tie as tie
 
@@ -13,6 +15,6 @@ place-by-spec =
     (λ c. search needs)
     free
     (λ c. search needs)
-    (λ c. rw (c .before .before .before .before .before .asked .given .1) (c .before .before .place .ensures .0))
+    (λ c. by-arm _ _ _ _ _ (Position _) (c .before .before .before .before .before .asked .given .1) (c .before .before .place .ensures .0))
     (λ c. search needs)
-    (λ c. rw (c .before .before .before .before .before .asked2 .given .1) (c .before .before .place-planned .ensures .0)))
+    (λ c. by-arm _ _ _ _ _ (Planned _) (c .before .before .before .before .before .asked2 .given .1) (c .before .before .place-planned .ensures .0)))

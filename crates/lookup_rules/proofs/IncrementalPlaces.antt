@@ -1,0 +1,82 @@
+-- What holds of the places of IncrementalStMan, of the answers.
+-- Assumes nothing.
+use mathlib.Core.Path.{_≡_, refl, sym, ap, _∙_}
+use mathlib.Core.List.{List}
+use mathlib.Core.Bool.{Bool, true, false, not}
+use Prim.Native.Nat.{ℕ, _<_}
+use lib.Dec.{T, eqb}
+use borrow.Author.Tests.{eq-eqb}
+use Rattle.column_desc.specs.ColumnDesc.{blank}
+use Rattle.column_set.specs.declared.Kind.{Kind}
+use Rattle.column_set.specs.declared.Kind.the-variants.{Incremental}
+use Rattle.table.specs.declared.Description.{Description}
+use Rattle.table.specs.Table.{describedAs}
+use Rattle.cell_map.specs.Map.{Bits}
+use Rattle.cell_map.proofs.Tests.{is-true}
+use lib.ListN.{getD}
+use Rattle.incremental_rules.specs.Rules.{refusalOf}
+use Rattle.incremental_rules.specs.Places.{placeOf, Kept}
+use Rattle.incremental_rules.proofs.Places.{every-place}
+use Rattle.lookup_rules.specs.declared.Question.{Question}
+use Rattle.lookup_rules.specs.declared.Question.the-variants.{Check, Prepare, Place, PlacePlanned, View, ViewPlanned}
+use Rattle.lookup_rules.specs.Questions.{rowOf, positionOf, asksCell, kindWith, isIncremental, isPlaced, isHeld, bindingAt, placeIn, answerOf}
+use Rattle.lookup_rules.specs.declared.Asked.{Asked}
+use Rattle.lookup_rules.specs.declared.Asked.the-variants.{Position, Planned}
+use Rattle.lookup_rules.specs.Demand.{question, columnOf, bitsOf, carries, inIncremental, SafeThere, PlacesThere}
+use Rattle.lookup_rules.proofs.CellAsked.{cell-sequence, cell-column, cell-row, bits-for}
+use Rattle.lookup_rules.proofs.Described.{columns-most}
+use Rattle.lookup_rules.proofs.Files.{incremental-refused}
+use Rattle.lookup_rules.proofs.Stages.{targetFor, target-sequence, target-kind, target-held, passed}
+
+-- a question that asks for a cell is not placed in a column of Strings
+no-string : (q : Question) (datatype : ℕ) → T (asksCell q) → T (isPlaced q datatype) → datatype ≡ 11 → ⊥
+no-string (Check n) datatype w h e = absurd w
+no-string (Prepare c) datatype w h e = absurd w
+no-string (Place row c) datatype w h e = rw (eq-eqb datatype 11 e) at h
+no-string (PlacePlanned row p) datatype w h e = rw (eq-eqb datatype 11 e) at h
+no-string (View row c) datatype w h e = rw (eq-eqb datatype 11 e) at h
+no-string (ViewPlanned row p) datatype w h e = rw (eq-eqb datatype 11 e) at h
+
+place-there : (d : Description) (sequence : ℕ) (f : List ℕ) (row c : ℕ) → placeIn d true sequence f row c ≡ placeOf d sequence f c row
+unfolding placeIn
+place-there d sequence f row c = refl
+
+module _ (t f : List ℕ) (sequence l : ℕ) (q : Question) (w : T (asksCell q)) (k : inIncremental t sequence)
+    (e : bindingAt (describedAs t) (positionOf q) .sequence ≡ sequence) (h : answerOf t f q l .refused ≡ 0) where
+  abbrev d : Description
+  d = describedAs t
+
+  own : targetFor t f q l .sequence ≡ sequence
+  own = target-sequence d q ∙ cell-sequence q _ w ∙ e
+
+  held-kind : kindWith (d .managers) (d .«manager_count») (targetFor t f q l .sequence) ≡ Incremental
+  held-kind = ap (λ (n : ℕ). kindWith (d .managers) (d .«manager_count») n) own ∙ k
+
+  kind : targetFor t f q l .incremental ≡ true
+  kind = target-kind d q ∙ ap (λ (x : Kind). isIncremental x) held-kind
+
+  accepted : refusalOf d (targetFor t f q l .sequence) f (targetFor t f q l .refused) ≡ 0
+  accepted = sym (incremental-refused d (targetFor t f q l) f l kind (rowOf q)) ∙ passed t f q l h .checked
+
+  kept : Kept d (targetFor t f q l .sequence) (positionOf q)
+  kept = record {
+    known = cell-column q _ w (passed t f q l h .column);
+    bound = e ∙ sym own;
+    no-string = no-string q _ w (rw held-kind at (target-held d q (passed t f q l h .held)));
+  }
+
+  same : bitsOf (answerOf t f q l) ≡ placeOf d (targetFor t f q l .sequence) f (positionOf q) (rowOf q)
+  same =
+      ap bitsOf (passed t f q l h .same) ∙ bits-for q _
+      ∙ rw (is-true (asksCell q) w, kind) (place-there d (targetFor t f q l .sequence) f (rowOf q) (positionOf q))
+
+  safe : SafeThere t f (bitsOf (answerOf t f q l)) (rowOf q)
+  safe =
+      rw same
+      (every-place d (targetFor t f q l .sequence) f (targetFor t f q l .refused) (columns-most t) accepted (positionOf q) (rowOf q) kept
+      (cell-row q _ w (passed t f q l h .row)))
+
+-- by position and by plan alike
+pub places-there : PlacesThere
+places-there t f sequence l row (Position c) k e h = safe t f sequence l (Place row c) tt k e h
+places-there t f sequence l row (Planned p) k e h = safe t f sequence l (PlacePlanned row p) tt k e h
