@@ -38,12 +38,12 @@ use Rattle.lookup_rules.specs.declared.Staged.{Staged}
 use Rattle.lookup_rules.specs.declared.Answer.{Answer}
 use Rattle.lookup_rules.specs.Questions.{rowOf, positionOf, asksCell, bindingAt, targetOf, fileOf, planFor, stagesOf, placeIn, bitsFor, noPlan, answered, answerOf}
 use Rattle.lookup_rules.proofs.CellAsked.{cell-sequence, cell-column, cell-row, bits-for}
-use Rattle.lookup_rules.proofs.Columns.{column-kept}
-use Rattle.lookup_rules.proofs.Described.{rows-most, columns-most}
+use Rattle.lookup_rules.proofs.Columns.{column-kept, column-same}
+use Rattle.lookup_rules.proofs.Described.{described}
 use Rattle.lookup_rules.proofs.Files.{file-standard, file-incremental, standard-refused, incremental-refused, target-passed}
 use Rattle.lookup_rules.proofs.Stages.{check-of, row-passed, stages-sequence, stages-kind, target-column, target-sequence, target-position, stages-plan, stages-set, stages-first}
 use Rattle.lookup.specs.Lookup.{Findable, cellBit, answerWith}
-use Rattle.lookup.proofs.Placing.{sets-told, size-told, set-known, set-same, set-covered, set-inside, size-most, column-same}
+use Rattle.lookup.proofs.Placing.{sets-told, size-told, set-known, set-same, set-covered, set-inside, size-most}
 
 -- a set that lies in a text lies in a longer one
 longer : {a b : ℕ} {x : Set} → a ≤ b → SetInside a 4 x → SetInside b 4 x
@@ -101,7 +101,7 @@ module _ (t f : List ℕ) (q : Question) (l : ℕ) (z : stagesOf t f q l .refuse
   kept = column-kept d sequence f c known own
 
   column-is : columnAt m c ≡ columnOf sequence (getD (d .columns) c blank) b
-  column-is = column-same d sequence f before l c known
+  column-is = column-same d sequence f c known
 
   listed : b .set < headerAt f (d .big) .sets
   listed = rw (ap (λ (k : MapColumn). k .set) column-is) at (set-known d sequence f before l passes c kept)
@@ -157,7 +157,7 @@ module _ (t f : List ℕ) (q : Question) (l : ℕ) (z : stagesOf t f q l .refuse
       size-most = rw size-is (size-most d sequence f before l);
       offset-most = o;
       bits-most = n;
-      row-most = omega (arith, below, rows-most t);
+      row-most = omega (arith, below, described t .rows-most);
     }
 
     first-is : bitOf y (stagesOf t f q l .set) (stagesOf t f q l .plan .size) (stagesOf t f q l .plan .offset) (stagesOf t f q l .plan .bits) row
@@ -181,7 +181,7 @@ module _ (t f : List ℕ) (q : Question) (l : ℕ) (k : targetOf (describedAs t)
       ∙ ap (λ (c : ℕ). incrementalAs d (g .sequence) f (g .refused) c (rowOf q) .first) (target-position d q)
       ∙ checked-there d (g .sequence) f (g .refused)
       (sym (incremental-refused d g f l k (rowOf q)) ∙ passed)
-      (columns-most t)
+      (described t .columns-most)
       (positionOf q)
       (rowOf q)
       (cell-column q (d .«column_count») w (target-column d q (target-passed d g f l (rowOf q) passed)))

@@ -10,19 +10,17 @@ use borrow.Author.Tests.{eq-eqb}
 use Rattle.bytes_at.specs.Stages.{_▷_, orNo}
 use Rattle.bytes_at.specs.declared.Width.the-variants.{Four}
 use Rattle.bytes_at.proofs.Stages.{then-left, then-right, or-passed}
-use Rattle.column_desc.specs.ColumnDesc.{blank}
-use Rattle.column_set.specs.ColumnSet.{noBinding}
 use Rattle.table.specs.declared.Description.{Description}
-use Rattle.cell_map.specs.Map.{noColumn, columnAt, setAt, setOf as mapSetOf, noSet as noMapSet}
+use Rattle.cell_map.specs.Map.{columnAt, setAt, setOf as mapSetOf, noSet as noMapSet}
 use Rattle.cell_map.specs.Fits.{fits, covers}
 use Rattle.cell_map.specs.Demand.{Kept}
 use Rattle.cell_map.proofs.Checked.{accepted, set-covers}
 use Rattle.standard_text.specs.Header.{headerAt}
 use Rattle.standard_text.specs.Index.{noSet, indexAt, SetInside}
 use Rattle.standard_text.proofs.IndexLaws.{index-inside}
-use Rattle.standard_columns.proofs.Facts.{sets-length, sets-at, columns-at}
+use Rattle.standard_columns.proofs.Facts.{sets-length, sets-at}
 use Rattle.standard_text.proofs.HeaderLaws.{header-bounds}
-use Rattle.standard_rules.specs.Rules.{textOf, setOf, columnOf, mapOf, refusalOf, checkedAs}
+use Rattle.standard_rules.specs.Rules.{textOf, setOf, mapOf, refusalOf, checkedAs}
 
 module _ (d : Description) (sequence : ℕ) (f : List ℕ) (refused l : ℕ) where
   index-passed : refusalOf d sequence f refused l ≡ 0 → indexAt (textOf f (headerAt f (d .big))) (headerAt f (d .big) .sets) .refused ≡ 0
@@ -70,9 +68,3 @@ module _ (d : Description) (sequence : ℕ) (f : List ℕ) (refused l : ℕ) whe
   pub size-most : mapOf d sequence f .size ≤ 1048576
   unfolding mapOf
   size-most = header-bounds f 1 (d .big) .size-most
-
-  -- the map's column is the table's
-  pub column-same : (c : ℕ) → c < d .«column_count»
-      → columnAt (mapOf d sequence f) c ≡ columnOf sequence (getD (d .columns) c blank) (getD (d .bindings) c noBinding)
-  unfolding mapOf
-  column-same c h = columns-at sequence _ _ noColumn _ c h

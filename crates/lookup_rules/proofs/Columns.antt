@@ -11,7 +11,7 @@ use Rattle.column_desc.specs.ColumnDesc.{blank}
 use Rattle.column_set.specs.declared.Binding.{Binding}
 use Rattle.column_set.specs.ColumnSet.{noBinding}
 use Rattle.table.specs.declared.Description.{Description}
-use Rattle.cell_map.specs.Map.{noColumn}
+use Rattle.cell_map.specs.Map.{noColumn, columnAt}
 use Rattle.cell_map.specs.Demand.{Kept}
 use Rattle.standard_rules.specs.Rules.{columnOf, columnsFrom, mapOf}
 use Rattle.lookup_rules.specs.Questions.{bindingAt}
@@ -45,6 +45,15 @@ column-kept d sequence f c h e =
   where
     kept-zero : (k : ℕ) → k ≡ c → T (eqb (bindingAt d k .sequence) sequence)
     kept-zero k q = rw (q, e) (eqb-refl sequence)
+
+-- the map's column is the table's
+pub column-same : (d : Description) (sequence : ℕ) (f : List ℕ) (c : ℕ) → c < d .«column_count»
+    → columnAt (mapOf d sequence f) c ≡ columnOf sequence (getD (d .columns) c blank) (bindingAt d c)
+unfolding mapOf
+column-same d sequence f c h = columns-at sequence (d .columns) (d .bindings) (d .«column_count») 0 c h ∙ from-zero (0 + c) (omega arith)
+  where
+    from-zero : (k : ℕ) → k ≡ c → columnOf sequence (getD (d .columns) k blank) (bindingAt d k) ≡ columnOf sequence (getD (d .columns) c blank) (bindingAt d c)
+    from-zero k e = rw e
 
 -- the rows of a map are the table's
 pub map-rows : (d : Description) (sequence : ℕ) (f : List ℕ) → mapOf d sequence f .rows ≡ d .rows

@@ -24,7 +24,7 @@ use Rattle.lookup_rules.specs.declared.Asked.{Asked}
 use Rattle.lookup_rules.specs.declared.Asked.the-variants.{Position, Planned}
 use Rattle.lookup_rules.specs.Demand.{question, columnOf, bitsOf, carries, inIncremental, SafeThere, PlacesThere}
 use Rattle.lookup_rules.proofs.CellAsked.{cell-sequence, cell-column, cell-row, bits-for}
-use Rattle.lookup_rules.proofs.Described.{columns-most}
+use Rattle.lookup_rules.proofs.Described.{described}
 use Rattle.lookup_rules.proofs.Files.{incremental-refused}
 use Rattle.lookup_rules.proofs.Stages.{targetFor, target-sequence, target-kind, target-held, passed}
 
@@ -55,7 +55,7 @@ module _ (t f : List ℕ) (sequence l : ℕ) (q : Question) (w : T (asksCell q))
   kind : targetFor t f q l .incremental ≡ true
   kind = target-kind d q ∙ ap (λ (x : Kind). isIncremental x) held-kind
 
-  accepted : refusalOf d (targetFor t f q l .sequence) f (targetFor t f q l .refused) ≡ 0
+  pub accepted : refusalOf d (targetFor t f q l .sequence) f (targetFor t f q l .refused) ≡ 0
   accepted = sym (incremental-refused d (targetFor t f q l) f l kind (rowOf q)) ∙ passed t f q l h .checked
 
   kept : Kept d (targetFor t f q l .sequence) (positionOf q)
@@ -65,15 +65,15 @@ module _ (t f : List ℕ) (sequence l : ℕ) (q : Question) (w : T (asksCell q))
     no-string = no-string q _ w (rw held-kind at (target-held d q (passed t f q l h .held)));
   }
 
-  same : bitsOf (answerOf t f q l) ≡ placeOf d (targetFor t f q l .sequence) f (positionOf q) (rowOf q)
+  pub same : bitsOf (answerOf t f q l) ≡ placeOf d (targetFor t f q l .sequence) f (positionOf q) (rowOf q)
   same =
       ap bitsOf (passed t f q l h .same) ∙ bits-for q _
       ∙ rw (is-true (asksCell q) w, kind) (place-there d (targetFor t f q l .sequence) f (rowOf q) (positionOf q))
 
-  safe : SafeThere t f (bitsOf (answerOf t f q l)) (rowOf q)
+  pub safe : SafeThere t f (bitsOf (answerOf t f q l)) (rowOf q)
   safe =
       rw same
-      (every-place d (targetFor t f q l .sequence) f (targetFor t f q l .refused) (columns-most t) accepted (positionOf q) (rowOf q) kept
+      (every-place d (targetFor t f q l .sequence) f (targetFor t f q l .refused) (described t .columns-most) accepted (positionOf q) (rowOf q) kept
       (cell-row q _ w (passed t f q l h .row)))
 
 -- by position and by plan alike

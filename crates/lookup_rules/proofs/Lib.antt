@@ -3,6 +3,7 @@ pub mod Columns
 pub mod CellAsked
 pub mod Files
 pub mod Stages
+pub mod WholeBytes
 pub mod Described
 pub mod Places
 pub mod IncrementalPlaces
@@ -10,3 +11,4 @@ pub mod Low
 pub mod Refusals
 pub mod Plans
 pub mod Fresh
+pub mod Views

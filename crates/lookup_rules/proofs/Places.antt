@@ -37,27 +37,27 @@ unfolding placeIn
 place-standard d sequence f row c = refl
 
 -- What an answer that is not refused shows of the map of the manager's file, for a question that asks for a cell.
-record Placed (t f : List ℕ) (sequence row c : ℕ) (b : Bits) : Type 0 where
-  fit : T (fits (mapOf (describedAs t) sequence f))
-  kept : Kept (mapOf (describedAs t) sequence f) c
-  below : row < mapOf (describedAs t) sequence f .rows
-  same : b ≡ placeOf (mapOf (describedAs t) sequence f) row c
+pub record Placed (t f : List ℕ) (sequence row c : ℕ) (b : Bits) : Type 0 where
+  pub fit : T (fits (mapOf (describedAs t) sequence f))
+  pub kept : Kept (mapOf (describedAs t) sequence f) c
+  pub below : row < mapOf (describedAs t) sequence f .rows
+  pub same : b ≡ placeOf (mapOf (describedAs t) sequence f) row c
 
 module _ (t f : List ℕ) (sequence l : ℕ) (q : Question) (w : T (asksCell q)) (k : inStandard t sequence)
     (e : bindingAt (describedAs t) (positionOf q) .sequence ≡ sequence) (h : answerOf t f q l .refused ≡ 0) where
-  own : targetFor t f q l .sequence ≡ sequence
+  pub own : targetFor t f q l .sequence ≡ sequence
   own = target-sequence (describedAs t) q ∙ cell-sequence q _ w ∙ e
 
-  kind : targetFor t f q l .incremental ≡ false
+  pub kind : targetFor t f q l .incremental ≡ false
   kind =
       target-kind (describedAs t) q
       ∙ ap (λ (n : ℕ). isIncremental (kindWith (describedAs t .managers) (describedAs t .«manager_count») n)) own
       ∙ ap (λ (x : Kind). isIncremental x) k
 
-  accepted : refusalOf (describedAs t) (targetFor t f q l .sequence) f (targetFor t f q l .refused) l ≡ 0
+  pub accepted : refusalOf (describedAs t) (targetFor t f q l .sequence) f (targetFor t f q l .refused) l ≡ 0
   accepted = sym (standard-refused (describedAs t) (targetFor t f q l) f l kind (rowOf q)) ∙ passed t f q l h .checked
 
-  shown : Placed t f sequence (rowOf q) (positionOf q) (bitsOf (answerOf t f q l))
+  pub shown : Placed t f sequence (rowOf q) (positionOf q) (bitsOf (answerOf t f q l))
   shown =
       let x = passed t f q l h in
       record {

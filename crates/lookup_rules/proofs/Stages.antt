@@ -19,7 +19,7 @@ use Rattle.lookup_rules.specs.declared.Question.{Question}
 use Rattle.lookup_rules.specs.declared.Target.{Target}
 use Rattle.lookup_rules.specs.declared.FileChecked.{FileChecked}
 use Rattle.lookup_rules.specs.declared.Staged.{Staged}
-use Rattle.lookup_rules.specs.Questions.{positionOf, sequenceOf, rowOf, isColumn, kindWith, isIncremental, isPlaced, isHeld, isBelow, bindingAt, targetOf, fileOf, planFor, stagesOf, placeIn, bitsFor, answered, answerOf, roomAfter}
+use Rattle.lookup_rules.specs.Questions.{positionOf, sequenceOf, rowOf, isColumn, kindWith, isIncremental, isPlaced, isHeld, isBelow, isSeen, bindingAt, targetOf, fileOf, planFor, stagesOf, placeIn, bitsFor, answered, answerOf, roomAfter}
 use Rattle.lookup_rules.proofs.Files.{target-passed}
 
 -- ---- the answer
@@ -74,6 +74,10 @@ module _ (t f : List ℕ) (q : Question) (l : ℕ) where
   pub row-passed : stagesOf t f q l .refused ≡ 0 → T (isBelow q (describedAs t .rows))
   unfolding stagesOf _>>=_
   row-passed h = or-passed _ 8 (then-right _ _ (then-left _ _ h))
+
+  pub seen-passed : stagesOf t f q l .refused ≡ 0 → T (isSeen q (targetFor .incremental) (stagesOf t f q l .plan .datatype))
+  unfolding stagesOf _>>=_
+  seen-passed h = or-passed _ 13 (then-right _ _ h)
 
   pub stages-sequence : stagesOf t f q l .sequence ≡ targetFor .sequence
   unfolding stagesOf _>>=_
