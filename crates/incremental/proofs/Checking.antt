@@ -2,7 +2,7 @@
 use mathlib.Core.Path.{_≡_, refl, sym, ap, _∙_}
 use mathlib.Core.Bool.{Bool, true, false}
 use mathlib.Core.List.{List}
-use Prim.Native.Nat.{ℕ, _+_, _*_}
+use Prim.Native.Nat.{ℕ, _+_, _*_, _≤_, _<_}
 use native.Mathlib.Decide.{ℕ-discrete}
 use native.Mathlib.Omega.{arith}
 use borrow.Author.Tests.{eq-eqb, ne-eqb}
@@ -10,7 +10,10 @@ use lib.Dec.{leb→le}
 use lib.ListN.{length}
 use Rattle.bytes_at.specs.Stages.{_▷_, orNo}
 use Rattle.bytes_at.proofs.Stages.{then-left, then-right, or-passed}
-use Rattle.buckets.specs.Chain.{Area, freeOk}
+use Rattle.buckets.specs.Chain.{Area, startOf, freeOk}
+use Rattle.buckets.proofs.Passed.{passed}
+use Rattle.cell_map.proofs.Places.{step}
+use Rattle.row_index.specs.Numbers.{numberIn}
 use Rattle.table.specs.declared.Description.{Description}
 use Rattle.standard_text.specs.Header.{longEnough}
 use Rattle.incremental_text.specs.declared.Header.{Header}
@@ -21,6 +24,7 @@ use Rattle.incremental_rules.specs.declared.Found.{Found}
 use Rattle.incremental_rules.specs.declared.Checked.{Checked}
 use Rattle.incremental_rules.specs.Rules.{indexFits, cellsOf, searchOf, indexOf, refusalOf, checkedAs}
 use Rattle.incremental_rules.proofs.AnyCell.{cells-same, search-same}
+use Rattle.incremental_rules.proofs.Rows.{number-below}
 use Rattle.incremental.specs.Incremental.{beforeIndex, refusedFile}
 
 -- ---- stages
@@ -55,6 +59,12 @@ area-passed refused h f b z = record {
   most = b .size-most;
   few = b .count-most;
 }
+
+-- the buckets of an index that is right lie in the file
+pub buckets-inside : (rows : ℕ) (f : List ℕ) (h : Header) (x : Index) {m : Bool} → Area f (h .size) (h .count) → m ≡ indexFits rows f h x → m ≡ true
+    → (i : ℕ) → i < x .count → startOf (h .size) (numberIn true 4 f (x .buckets) i) + h .size ≤ length f
+buckets-inside rows f h x a e z i l =
+    omega (arith, step (h .size) (number-below rows f h x (passed (sym e ∙ z)) i l), a .holds)
 
 -- ---- the whole refusal, and what is answered. h is the header that was read, and n, x, g, m, cells and found what was found on
 -- the way.

@@ -3,10 +3,10 @@
 ghost use mathlib.Core.Path.{_≡_};
 ghost use mathlib.Core.Bool.{true};
 ghost use mathlib.Core.List.{_++_};
-ghost use Prim.Native.Nat.{_+_, _*_, _≤_, _<_};
+ghost use Prim.Native.Nat.{ℕ, _+_, _*_, _≤_, _<_};
 ghost use lib.ListN.{length};
 ghost use Rattle.buckets.specs.Chain.{Area, startOf, links};
-ghost use Rattle.row_index.specs.Numbers.{numbersAt};
+ghost use Rattle.row_index.specs.Numbers.{numberIn, numbersAt};
 ghost use Rattle.marks.specs.Different.{allApart};
 ghost use Rattle.incremental_text.specs.Index.{IndexInside};
 ghost use Rattle.incremental_rules.specs.Rules.{firstsFit, indexFits, cellBytes, cellsIn, searchOf, checkedAs};
@@ -129,11 +129,12 @@ fn gather_cells(
     }
 }
 
-// The buckets in index order, up to the first that is refused. Gives the start of the row's bucket, and the offset of the row's
+// The buckets in index order, which all lie in the file, up to the first that is refused. Gives the start of the row's bucket, and the offset of the row's
 // value in the column.
 fn find_cell(f: &[u8], big: bool, size: usize, x: Index, cells: Cells, row: usize) -> Found
     requires { ⌜ (size ≤ 1048576) × (cells .count ≤ 64) ⌝ }
     requires { ⌜ IndexInside (length (now f)) 4 x ⌝ }
+    requires { ⌜ ((i : ℕ) → i < x .count → startOf size (numberIn true 4 (now f) (x .buckets) i) + size ≤ length (now f)) ⌝ }
     ensures { λ r. ⌜ r ≡ searchOf big (now (f .entry)) size x cells row ⌝ }
     ensures bounded { λ r. ⌜ (r .start ≤ 4503599627371008) × (r .offset ≤ 1048576) ⌝ }
 {

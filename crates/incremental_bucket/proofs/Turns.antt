@@ -41,10 +41,10 @@ same c h = ap (λ (x : ℕ). record { at = c .at; end = c .end; big = c .big; re
 
 -- ---- one number
 module _ (s : List ℕ) (c : Cursor) (h : Clean c) {left : ℕ} (e : left ≡ leftIn c) where
-  number-short : left < 4 → record { value = 0; next = refusedAt c (c .at) 1 } ≡ uintAt s c
+  pub number-short : left < 4 → record { value = 0; next = refusedAt c (c .at) 1 } ≡ uintAt s c
   number-short l = sized-short s c h e refl l refl ∙ sym (uint-is s c)
 
-  number-on : {v : ℕ} → 4 ≤ left → v ≡ uintOf (eqb (c .big) 1) 4 s (c .at) → record { value = v; next = movedTo c (c .at + 4) } ≡ uintAt s c
+  pub number-on : {v : ℕ} → 4 ≤ left → v ≡ uintOf (eqb (c .big) 1) 4 s (c .at) → record { value = v; next = movedTo c (c .at + 4) } ≡ uintAt s c
   number-on l q = sized-on s c h e refl l q ∙ sym (uint-is s c)
 
 -- ---- starts

@@ -9,8 +9,12 @@ use Rattle.bytes_at.specs.Loop.{after}
 use Rattle.bytes_at.specs.Steps.{_>>=_}
 use Rattle.aipsio.specs.declared.Cursor.{Cursor}
 use Rattle.aipsio.specs.declared.Value.{Value}
-use Rattle.aipsio.specs.Field.{skipped, judged, settled, uintAt}
+use Rattle.aipsio.specs.Field.{refusedAt, skipped, judged, settled, uintAt}
 use Rattle.incremental_bucket.specs.declared.Starts.{Starts}
+
+-- nothing read: the field that begins at `from` is refused with the number
+abbrev pub refusedValue : Cursor → ℕ → ℕ → Value
+refusedValue c from n = record { value = 0; next = refusedAt c from n }
 
 -- "A bucket begins with index offset x in the table's endianness, 4 to bucket size, high byte 0 (else 3)": the length of the data
 -- part, x - 4, and the cursor at the index part

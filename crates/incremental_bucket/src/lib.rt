@@ -2,9 +2,12 @@
 // the same pass finds the offset of the value that a row has in a column. No byte of the data part is read.
 ghost use mathlib.Core.Path.{_≡_};
 ghost use mathlib.Core.Bool.{cond};
-ghost use Prim.Native.Nat.{_+_, _≤_};
+ghost use Prim.Native.Nat.{_+_, _≤_, _<_};
 ghost use lib.Dec.{leb};
+ghost use lib.ListN.{length};
+ghost use Rattle.bytes_at.specs.Number.{uintOf};
 ghost use Rattle.incremental_bucket.specs.Bucket.{
+  refusedValue,
   orderOf,
   dataAt,
   startFits,
@@ -35,17 +38,87 @@ pub fn choose(test: bool, a: usize, b: usize) -> usize
     b
 }
 
+fn wide(x: u8) -> usize
+    ensures { λ r. ⌜ (r ≡ x) × (r < 256) ⌝ }
+{
+    x as usize
+}
+
+// The number in four bytes that are there.
+fn number_at(s: &[u8], at: usize, big: bool) -> usize
+    requires { ⌜ at + 4 ≤ length (now s) ⌝ }
+    ensures { λ r. ⌜ r ≡ uintOf big 4 (now (s .entry)) at ⌝ }
+{
+    let a = wide(s[at]);
+    let b = wide(s[at + 1]);
+    let c = wide(s[at + 2]);
+    let d = wide(s[at + 3]);
+    if big {
+        return a * 16777216 + b * 65536 + c * 256 + d;
+    }
+    d * 16777216 + c * 65536 + b * 256 + a
+}
+
+// The lesser of two numbers.
+fn least(a: usize, b: usize) -> usize
+    ensures { λ r. ⌜ (r ≤ a) × (r ≤ b) × (r < a → r ≡ b) ⌝ }
+{
+    if a < b {
+        return a;
+    }
+    b
+}
+
+// Nothing was read: the field that begins at `from` is refused with the number.
+fn refuse(c: Cursor, from: usize, number: usize) -> Value
+    ensures { λ r. ⌜ r ≡ refusedValue c from number ⌝ }
+{
+    Value {
+        value: 0,
+        next: Cursor {
+            at: from,
+            end: c.end,
+            big: c.big,
+            refused: number,
+        },
+    }
+}
+
 // The index offset x of a bucket of so many bytes: how long its data part is, x - 4, and the cursor at its index part.
 fn read_data(s: &[u8], c: Cursor, size: usize) -> Value
+    requires { ⌜ c .end ≤ length (now s) ⌝ }
     ensures { λ r. ⌜ r ≡ dataAt (now (s .entry)) c size ⌝ }
 {
-    let x = aipsio::uint(s, c);
-    let d = aipsio::judge(x.next, c.at, x.value < 16777216, 3);
-    let ok = bytes_at::within(x.value, 4, size);
-    let e = aipsio::judge(d, c.at, ok, 11);
-    let len = bytes_at::minus(x.value, 4);
-    let n = aipsio::skip(e, len);
-    aipsio::settle(len, n)
+    let at = c.at;
+    let end = c.end;
+    let big = c.big;
+    let refused = c.refused;
+    if refused != 0 {
+        return Value { value: 0, next: c };
+    }
+    let left = aipsio::left(c);
+    if left < 4 {
+        return refuse(c, at, 1);
+    }
+    let x = number_at(s, at, big == 1);
+    if 16777216 <= x {
+        return refuse(c, at, 3);
+    }
+    if !bytes_at::within(x, 4, size) {
+        return refuse(c, at, 11);
+    }
+    if left < x {
+        return refuse(c, at + 4, 1);
+    }
+    Value {
+        value: x - 4,
+        next: Cursor {
+            at: at + x,
+            end: end,
+            big: big,
+            refused: 0,
+        },
+    }
 }
 
 // Whether start i of a column may follow the last one, in a bucket of so many rows.
@@ -61,9 +134,11 @@ fn start_fits(i: usize, last: usize, v: usize, rows: usize) -> bool
     last < v
 }
 
-// The n starts of a column. The first that is refused ends the loop, whatever n is.
+// The n starts of a column, up to the first that is refused. No more are looked at than the bucket has room for, whatever n is.
 fn read_starts(s: &[u8], c: Cursor, n: usize, rows: usize, row: usize) -> Starts
+    requires { ⌜ c .end ≤ length (now s) ⌝ }
     ensures { λ r. ⌜ r ≡ startsAt (now (s .entry)) c n rows row ⌝ }
+    ensures inside { λ r. ⌜ r .next .end ≡ c .end ⌝ }
 {
     let end = c.end;
     let big = c.big;
@@ -75,25 +150,14 @@ fn read_starts(s: &[u8], c: Cursor, n: usize, rows: usize, row: usize) -> Starts
             next: c,
         };
     }
+    let room = aipsio::left(c) / 4;
+    let m = least(n, room);
     let mut at = c.at;
-    let mut left = aipsio::left(c);
     let mut last = 0;
     let mut hit = 0;
     let mut i = 0;
-    while i < n {
-        if left < 4 {
-            return Starts {
-                last: 0,
-                hit: 0,
-                next: Cursor {
-                    at: at,
-                    end: end,
-                    big: big,
-                    refused: 1,
-                },
-            };
-        }
-        let v = bytes_at::word(s, at, big == 1);
+    while i < m {
+        let v = number_at(s, at, big == 1);
         if !start_fits(i, last, v, rows) {
             return Starts {
                 last: 0,
@@ -109,8 +173,19 @@ fn read_starts(s: &[u8], c: Cursor, n: usize, rows: usize, row: usize) -> Starts
         hit = choose(v <= row, i, hit);
         last = v;
         at += 4;
-        left -= 4;
         i += 1;
+    }
+    if m < n {
+        return Starts {
+            last: 0,
+            hit: 0,
+            next: Cursor {
+                at: at,
+                end: end,
+                big: big,
+                refused: 1,
+            },
+        };
     }
     Starts {
         last: last,
@@ -134,10 +209,12 @@ fn lies_within(offset: usize, bytes: usize, limit: usize) -> bool
     offset <= limit - bytes
 }
 
-// The n offsets of a column whose values take so many bytes: gives the one of value `hit`. The first that is refused ends the
-// loop, whatever n is.
+// The n offsets of a column whose values take so many bytes, up to the first that is refused: gives the one of value `hit`. No
+// more are looked at than the bucket has room for, whatever n is.
 fn read_offsets(s: &[u8], c: Cursor, n: usize, limit: usize, bytes: usize, hit: usize) -> Value
+    requires { ⌜ c .end ≤ length (now s) ⌝ }
     ensures { λ r. ⌜ r ≡ offsetsAt (now (s .entry)) c n limit bytes hit ⌝ }
+    ensures inside { λ r. ⌜ r .next .end ≡ c .end ⌝ }
 {
     let end = c.end;
     let big = c.big;
@@ -145,23 +222,13 @@ fn read_offsets(s: &[u8], c: Cursor, n: usize, limit: usize, bytes: usize, hit: 
     if refused != 0 {
         return Value { value: 0, next: c };
     }
+    let room = aipsio::left(c) / 4;
+    let m = least(n, room);
     let mut at = c.at;
-    let mut left = aipsio::left(c);
     let mut offset = 0;
     let mut i = 0;
-    while i < n {
-        if left < 4 {
-            return Value {
-                value: 0,
-                next: Cursor {
-                    at: at,
-                    end: end,
-                    big: big,
-                    refused: 1,
-                },
-            };
-        }
-        let v = bytes_at::word(s, at, big == 1);
+    while i < m {
+        let v = number_at(s, at, big == 1);
         if !lies_within(v, bytes, limit) {
             return Value {
                 value: 0,
@@ -175,8 +242,18 @@ fn read_offsets(s: &[u8], c: Cursor, n: usize, limit: usize, bytes: usize, hit: 
         }
         offset = choose(i == hit, v, offset);
         at += 4;
-        left -= 4;
         i += 1;
+    }
+    if m < n {
+        return Value {
+            value: 0,
+            next: Cursor {
+                at: at,
+                end: end,
+                big: big,
+                refused: 1,
+            },
+        };
     }
     Value {
         value: offset,
@@ -191,12 +268,32 @@ fn read_offsets(s: &[u8], c: Cursor, n: usize, limit: usize, bytes: usize, hit: 
 
 // A column's part of the index: the number of its values, their starts, their offsets. Gives the offset of the row's value.
 fn read_column(s: &[u8], c: Cursor, limit: usize, rows: usize, row: usize, bytes: usize) -> Value
+    requires { ⌜ c .end ≤ length (now s) ⌝ }
     ensures { λ r. ⌜ r ≡ columnAt (now (s .entry)) c limit rows row bytes ⌝ }
+    ensures inside { λ r. ⌜ r .next .end ≡ c .end ⌝ }
 {
-    let n = aipsio::uint(s, c);
-    let d = aipsio::judge(n.next, c.at, 0 < n.value, 11);
-    let starts = read_starts(s, d, n.value, rows, row);
-    read_offsets(s, starts.next, n.value, limit, bytes, starts.hit)
+    let at = c.at;
+    let end = c.end;
+    let big = c.big;
+    let refused = c.refused;
+    if refused != 0 {
+        return Value { value: 0, next: c };
+    }
+    if aipsio::left(c) < 4 {
+        return refuse(c, at, 1);
+    }
+    let n = number_at(s, at, big == 1);
+    if n == 0 {
+        return refuse(c, at, 11);
+    }
+    let d = Cursor {
+        at: at + 4,
+        end: end,
+        big: big,
+        refused: 0,
+    };
+    let starts = read_starts(s, d, n, rows, row);
+    read_offsets(s, starts.next, n, limit, bytes, starts.hit)
 }
 
 // The n columns in turn, whose values take so many bytes each. Gives the offset of the row's value in the column.
@@ -210,7 +307,7 @@ fn read_columns(
     bytes: &[usize; 64],
     n: usize,
 ) -> Value
-    requires { ⌜ n ≤ 64 ⌝ }
+    requires { ⌜ (n ≤ 64) × (c .end ≤ length (now s)) ⌝ }
     ensures { λ r. ⌜ r ≡ columnsAt (now (s .entry)) c limit rows row column (now (bytes .entry)) n ⌝ }
 {
     let mut offset = 0;
@@ -251,7 +348,7 @@ pub fn read_bucket(
     bytes: &[usize; 64],
     n: usize,
 ) -> Value
-    requires { ⌜ (n ≤ 64) × (at ≤ 9007199254740992) × (size ≤ 1048576) ⌝ }
+    requires { ⌜ (n ≤ 64) × (at + size ≤ length (now f)) ⌝ }
     ensures { λ r. ⌜ r ≡ bucketAt (now (f .entry)) at size big rows row column (now (bytes .entry)) n ⌝ }
     ensures bounded { λ r. ⌜ r .value ≤ size ⌝ }
 {

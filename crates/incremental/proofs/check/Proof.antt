@@ -5,7 +5,7 @@ use mathlib.Core.Path.{refl, sym, _∙_}
 use native.Mathlib.Omega.{arith}
 use Rattle.bytes_at.proofs.Stepped.{free}
 use Rattle.standard_text.proofs.HeaderLaws.{area-most}
-use Rattle.incremental.proofs.Checking.{area-passed, out-first, out-index, out-free, out-map, out-bucket, accepted}
+use Rattle.incremental.proofs.Checking.{area-passed, buckets-inside, out-first, out-index, out-free, out-map, out-bucket, accepted}
 use Rattle.incremental.proofs.check.Statement.{statement}
 use Rattle.incremental.proofs.check.Tie as tie
 
@@ -46,7 +46,11 @@ returns-4 c =
 find-cell-requires : tie.Need-find-cell-requires
 find-cell-requires c κs = (
   (c .before .before .before .before .before .before .before .before .before .before .before .before .read-header .ensures .1 .0 .size-most, c .gather-cells .ensures .1),
-  c .before .before .before .before .before .before .before .before .read-index .ensures .1 (c .before .before .before .before .before .before .before .if2 .left),
+  (
+    c .before .before .before .before .before .before .before .before .read-index .ensures .1 (c .before .before .before .before .before .before .before .if2 .left),
+    buckets-inside _ _ _ _ (area-passed _ _ _ (c .before .before .before .before .before .before .before .before .before .before .before .before .read-header .ensures .1 .0) (sym (c .before .before .before .before .before .before .before .before .before .before .before .before-index .ensures) ∙ c .before .before .before .before .before .before .before .before .before .before .if1 .left))
+        (c .before .before .before .before .index-fits .ensures) (not-false _ (c .before .before .before .if4 .left)),
+  ),
 )
 
 returns-5 : tie.Need-returns-5

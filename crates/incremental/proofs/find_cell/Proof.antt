@@ -34,8 +34,8 @@ returns c = (
 
 read-bucket-requires : tie.Need-read-bucket-requires Inv-loop μ-loop
 read-bucket-requires c κs =
-    let p = c .before .before .before .before .before .before .before .before .before .before .before .before .before .pre .0 in
-    (p .1, omega (arith, start-most (p .0) (c .before .before .before .before .before .before .before .word .ensures .1)), p .0)
+    let p = c .before .before .before .before .before .before .before .before .before .before .before .before .before .pre in
+    (p .0 .1, rw (c .before .before .before .before .before .before .before .word .ensures .0) (p .1 .1 (c .before .before .before .before .before .before .before .before .before .before .loop .i) (omega arith)))
 
 mul-at : tie.Need-mul-at Inv-loop μ-loop
 mul-at c = omega (arith, start-most (c .before .before .before .before .before .before .before .before .before .before .pre .0 .0) (c .before .before .before .before .word .ensures .1))

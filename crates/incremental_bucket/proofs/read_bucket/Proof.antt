@@ -1,12 +1,19 @@
 -- `incremental_bucket::read_bucket` meets its contract: its calls compose as the definition says, and the offset lies in the bucket.
+use native.Mathlib.Omega.{arith}
 use borrow.Author.Needs.{needs}
 use denote.Ref.{now}
 use Rattle.bytes_at.proofs.Stepped.{via, free}
 use Rattle.aipsio.proofs.Bounds.{at-most}
 use Rattle.incremental_bucket.specs.Bucket.{bucketAt}
 use Rattle.incremental_bucket.proofs.Bounds.{bucket-le}
+use Rattle.incremental_bucket.proofs.Ends.{data-of-end}
 use Rattle.incremental_bucket.proofs.read_bucket.Statement.{statement}
 use Rattle.incremental_bucket.proofs.read_bucket.Tie as tie
+
+read-columns-requires : tie.Need-read-columns-requires
+read-columns-requires c κs =
+    let p = c .before .before .before .pre in
+    (p .0, omega (arith, data-of-end _ _ _ (c .read-data .ensures), p .1))
 
 returns : tie.Need-returns
 unfolding bucketAt
@@ -18,4 +25,4 @@ returns c =
     c .read-columns .ensures)))
 
 pub read-bucket-spec : {M : Type 1} → statement M
-read-bucket-spec = tie.close (tie.spec free (λ c. search needs) free (λ c κs. search needs) returns)
+read-bucket-spec = tie.close (tie.spec free (λ c. search needs) (λ c κs. c .before .before .pre .1) read-columns-requires returns)

@@ -1,6 +1,6 @@
 -- `incremental_bucket::read_columns` meets its contract. The loop's invariant: after k turns the state is the definition's after k turns.
 use Prim.Native.Nat.{_-_, _≤_}
-use mathlib.Core.Path.{_≡_, refl}
+use mathlib.Core.Path.{_≡_, refl, _∙_}
 use native.Mathlib.Omega.{arith}
 use borrow.Author.Needs.{needs}
 use Rattle.bytes_at.specs.Loop.{after}
@@ -14,24 +14,29 @@ use Rattle.incremental_bucket.proofs.read_columns.Tie as tie
 abbrev Inv-loop : tie.InvT-loop
 Inv-loop s limit rows row column bytes n offset₀ next₀ k₀ offset next k =
     (k ≤ n)
+    × (next .end ≡ next₀ .end)
     × (_≡_ {A = Value} (record { value = offset; next = next }) (after (columnInto s limit rows row column bytes) (record { value = 0; next = next₀ }) k))
 
 abbrev μ-loop : tie.MeasureT-loop
 μ-loop s limit rows row column bytes n offset₀ next₀ k₀ offset next k = n - k
 
+read-column-requires : tie.Need-read-column-requires Inv-loop μ-loop
+read-column-requires c κs = omega (arith, c .before .before .loop .inv .1, c .before .before .before .before .pre .1)
+
 loop-again : tie.Need-loop-again Inv-loop μ-loop
 unfolding columnInto
 loop-again c = (
   omega arith,
-  after-more _ _ _ (c .before .before .before .before .before .loop .inv .1) (
-      via _ (c .before .before .read-column .ensures) (
+  c .before .before .read-column .ensures .1 ∙ c .before .before .before .before .before .loop .inv .1,
+  after-more _ _ _ (c .before .before .before .before .before .loop .inv .2) (
+      via _ (c .before .before .read-column .ensures .0) (
       via _ (c .before .choose .ensures) (
       refl))),
 )
 
 returns : tie.Need-returns Inv-loop μ-loop
 unfolding columnsAt
-returns c = after-all _ _ _ _ (c .before .loop .inv .1) (omega arith) (omega arith)
+returns c = after-all _ _ _ _ (c .before .loop .inv .2) (omega arith) (omega arith)
 
 pub read-columns-spec : {M : Type 1} → statement M
 read-columns-spec =
@@ -39,10 +44,10 @@ read-columns-spec =
     (tie.spec
     Inv-loop
     μ-loop
-    (λ c. (omega arith, after-none _ _))
+    (λ c. (omega arith, refl, after-none _ _))
     (λ c. search needs)
     (λ c. search needs)
-    free
+    read-column-requires
     free
     (λ c. search needs)
     (λ c. search needs)
