@@ -1,0 +1,220 @@
+/*
+ * Helvidrane: a proved reader of Casacore tables, from C and C++.
+ *
+ * Link the archive that tools/archive makes: cc program.c target/staticlib/libc_api.a
+ *
+ * Bytes. The caller lends the whole of table.dat and of the file of one data manager, table.f<i>, in memory or mapped, and
+ * nothing may change or shorten them before the function returns. A run of bytes or numbers is a pointer and the number of
+ * its elements. No pointer is null, not even one to 0 elements: lend the address of any object then. `room` and `out` are
+ * written and share no byte with each other or with anything else that is lent.
+ *
+ * Answers. A function gives 0 and writes its answer over the first numbers of `out`, or it gives the number of a refusal
+ * (enum hv_number) and writes zeros there. Numbers behind those are left alone. Where `out` (or a plan) is too short the
+ * function gives HV_SHORT and writes nothing at all. Lengths are the constants HV_.._LEN; numbers that the caller passes may
+ * be any 64-bit numbers.
+ *
+ * Room. hv_check, hv_plan, hv_place and hv_view are lent a room for the index text of a StandardStMan file. It needs the
+ * file's index length, else HV_REFUSED_ROOM; HV_ROOM_MOST bytes are always enough. An IncrementalStMan file needs none (0
+ * bytes will do). Afterwards the whole room is zero where the function refused and for every IncrementalStMan file; else it
+ * holds the index text, then zeros. HV_SHORT leaves it as it was.
+ *
+ * The functions keep nothing between calls, allocate nothing and may run in several threads at once.
+ */
+#ifndef HELVIDRANE_H
+#define HELVIDRANE_H
+
+#include <stddef.h>
+#include <stdint.h>
+
+#ifdef __cplusplus
+extern "C" {
+#endif
+
+/* The refusals: X(name, number, when it is given, as document 01 says it). */
+#define HV_REFUSALS(X)                                                                                                    \
+    X(HV_REFUSED_END, 1,                                                                                                  \
+      "bytes, or the enclosing object, end before the field or object does, or the file is shorter than 512 + buckets x " \
+      "bucket size")                                                                                                      \
+    X(HV_REFUSED_NAME, 2, "the mark or an object or table type name is not the expected one")                             \
+    X(HV_REFUSED_VERSION, 3, "a version is not one that is read")                                                         \
+    X(HV_REFUSED_RANGE, 4, "a number or string length is out of range, or table.dat has more than 65,536 bytes")          \
+    X(HV_REFUSED_VALUE, 5,                                                                                                \
+      "a column type string, data type number, options, dimensionality, shape, Bool byte or endianness value does not "   \
+      "fit")                                                                                                              \
+    X(HV_REFUSED_FACTS, 6,                                                                                                \
+      "two stated facts disagree: row counts, a column name or a sequence number twice, a sequence number above the "     \
+      "highest or unknown, endianness, or a Block's length and the entry count")                                          \
+    X(HV_REFUSED_LENGTH, 7, "an object, DMInfo or index text has a length other than its fields use")                     \
+    X(HV_REFUSED_MISSING, 8, "no such column or manager, or the manager is not of the asked kind")                        \
+    X(HV_REFUSED_ROW, 9, "row not below the row count")                                                                   \
+    X(HV_REFUSED_CHAIN, 10, "a bucket chain is wrong")                                                                    \
+    X(HV_REFUSED_MAP, 11, "the map of rows, buckets and extents is wrong")                                                \
+    X(HV_REFUSED_PLAN, 12, "stale plan")                                                                                  \
+    X(HV_REFUSED_ROOM, 13, "lent index room shorter than the index length")                                               \
+    X(HV_REFUSED_BOOL, 14, "view of a Bool column, scalar or any array, in StandardStMan")
+
+#define HV_CONSTANT(name, number, text) name = number,
+
+/* What a function gives. HV_SHORT is no refusal of the files: `out` or a plan is too short, and nothing was written. */
+enum hv_number { HV_ACCEPTED = 0, HV_REFUSALS(HV_CONSTANT) HV_SHORT = 255 };
+
+/* The data types: X(name, number, spelling in listings). */
+#define HV_DATA_TYPES(X)                \
+    X(HV_TYPE_BOOL, 0, "Bool")          \
+    X(HV_TYPE_UCHAR, 2, "uChar")        \
+    X(HV_TYPE_SHORT, 3, "Short")        \
+    X(HV_TYPE_USHORT, 4, "uShort")      \
+    X(HV_TYPE_INT, 5, "Int")            \
+    X(HV_TYPE_UINT, 6, "uInt")          \
+    X(HV_TYPE_FLOAT, 7, "float")        \
+    X(HV_TYPE_DOUBLE, 8, "double")      \
+    X(HV_TYPE_COMPLEX, 9, "Complex")    \
+    X(HV_TYPE_DCOMPLEX, 10, "DComplex") \
+    X(HV_TYPE_STRING, 11, "String")     \
+    X(HV_TYPE_INT64, 29, "Int64")
+
+enum hv_data_type { HV_DATA_TYPES(HV_CONSTANT) };
+
+#undef HV_CONSTANT
+
+/* The kind of a data manager. */
+enum hv_kind { HV_OTHER_KIND = 0, HV_STANDARD = 1, HV_INCREMENTAL = 2 };
+
+/* A room of this many bytes is enough for every file. */
+#define HV_ROOM_MOST 65536
+
+/* The numbers of hv_description. */
+enum hv_description_number {
+    HV_DESCRIPTION_ROWS,
+    HV_DESCRIPTION_BIG_ENDIAN, /* 1: big endian, 0: little endian */
+    HV_DESCRIPTION_COLUMNS,
+    HV_DESCRIPTION_MANAGERS,
+    HV_DESCRIPTION_LEN
+};
+
+/* The numbers of hv_column. */
+enum hv_column_number {
+    HV_COLUMN_NAME, /* where its name begins in table.dat */
+    HV_COLUMN_NAME_LEN,
+    HV_COLUMN_DATA_TYPE,
+    HV_COLUMN_ARRAY, /* 1: array, 0: scalar */
+    HV_COLUMN_OPTIONS,
+    HV_COLUMN_ELEMENTS, /* 0 where the shape is not fixed */
+    HV_COLUMN_STRING_MOST,
+    HV_COLUMN_BITS, /* of a cell, not rounded to bytes */
+    HV_COLUMN_SEQUENCE, /* the sequence number of its manager */
+    HV_COLUMN_SET,
+    HV_COLUMN_OFFSET,
+    HV_COLUMN_LEN
+};
+
+/* The numbers of hv_manager. */
+enum hv_manager_number {
+    HV_MANAGER_SEQUENCE, /* its file is table.f<sequence number> */
+    HV_MANAGER_KIND, /* enum hv_kind */
+    HV_MANAGER_NAME, /* where its name begins in table.dat */
+    HV_MANAGER_NAME_LEN,
+    HV_MANAGER_LEN
+};
+
+/* The number of hv_column_by_name: the position. */
+#define HV_POSITION_LEN 1
+
+/* The numbers of a plan. Set, offset and rows per bucket are 0 for IncrementalStMan, whose cells are whole bytes. */
+enum hv_plan_number {
+    HV_PLAN_POSITION,
+    HV_PLAN_SEQUENCE,
+    HV_PLAN_DATA_TYPE,
+    HV_PLAN_ELEMENTS,
+    HV_PLAN_BITS,
+    HV_PLAN_SET,
+    HV_PLAN_OFFSET,
+    HV_PLAN_ROWS_PER_BUCKET,
+    HV_PLAN_BUCKET_SIZE,
+    HV_PLAN_LEN
+};
+
+/* The numbers of a place, counted in bits from the file's start. Bits count from a byte's lowest. */
+enum hv_place_number { HV_PLACE_FIRST_BIT, HV_PLACE_BIT_COUNT, HV_PLACE_LEN };
+
+/* The numbers of a view, counted in bytes from the file's start. */
+enum hv_view_number { HV_VIEW_START, HV_VIEW_LENGTH, HV_VIEW_LEN };
+
+/*
+ * Description: what table.dat says of the table.
+ * out: HV_DESCRIPTION_LEN numbers. Refusals: 1 to 7.
+ */
+uint64_t hv_description(const uint8_t *table, size_t table_len, uint64_t *out, size_t out_len);
+
+/*
+ * Description: the column at a position, from 0 in stored order.
+ * out: HV_COLUMN_LEN numbers. Refusals: 1 to 7; 8, no such column.
+ */
+uint64_t hv_column(const uint8_t *table, size_t table_len, uint64_t position, uint64_t *out, size_t out_len);
+
+/*
+ * Description: the data manager at an index, from 0 in stored order (its sequence number is in the answer).
+ * out: HV_MANAGER_LEN numbers. Refusals: 1 to 7; 8, no such manager.
+ */
+uint64_t hv_manager(const uint8_t *table, size_t table_len, uint64_t index, uint64_t *out, size_t out_len);
+
+/*
+ * Column by name: the position of the column with exactly these bytes as its name.
+ * out: HV_POSITION_LEN number. Refusals: 1 to 7; 8, no such column.
+ */
+uint64_t hv_column_by_name(const uint8_t *table, size_t table_len, const uint8_t *name, size_t name_len, uint64_t *out,
+                           size_t out_len);
+
+/*
+ * File check: whether `file` is a right file of the manager with this sequence number.
+ * Only the number is given. Refusals: 1 to 7, of table.dat or of the file; 8, no such manager, or one of another kind; 10; 11;
+ * 13. Never HV_SHORT.
+ */
+uint64_t hv_check(const uint8_t *table, size_t table_len, const uint8_t *file, size_t file_len, uint64_t sequence,
+                  uint8_t *room, size_t room_len);
+
+/*
+ * Plan: where the cells of the column at a position are kept, after a check of the file, which is its manager's.
+ * out: HV_PLAN_LEN numbers. Refusals: 1 to 7; 8, no such column, its manager of another kind, or a String column in
+ * IncrementalStMan; 10; 11; 13.
+ */
+uint64_t hv_plan(const uint8_t *table, size_t table_len, const uint8_t *file, size_t file_len, uint64_t position,
+                 uint8_t *room, size_t room_len, uint64_t *out, size_t out_len);
+
+/*
+ * Place: the bits of the file that hold the cell of a row and a column position, after a check of the file.
+ * out: HV_PLACE_LEN numbers. Refusals: those of hv_plan; 9.
+ */
+uint64_t hv_place(const uint8_t *table, size_t table_len, const uint8_t *file, size_t file_len, uint64_t row,
+                  uint64_t position, uint8_t *room, size_t room_len, uint64_t *out, size_t out_len);
+
+/*
+ * Place, of the column that a plan of HV_PLAN_LEN numbers was made for. A plan whose numbers are not all those of a fresh
+ * plan for its position is stale. HV_SHORT also where the plan has fewer numbers.
+ * out: HV_PLACE_LEN numbers. Refusals: those of hv_plan; 12; 9.
+ */
+uint64_t hv_place_planned(const uint8_t *table, size_t table_len, const uint8_t *file, size_t file_len, uint64_t row,
+                          const uint64_t *plan, size_t plan_len, uint8_t *room, size_t room_len, uint64_t *out,
+                          size_t out_len);
+
+/*
+ * View: the bytes of the file that hold the cell of a row and a column position, after a check of the file.
+ * out: HV_VIEW_LEN numbers; the cell is file[start] to file[start + length - 1]. Refusals: those of hv_plan; 9; 14, since the
+ * cells of a Bool column in StandardStMan need not be whole bytes: hv_place gives their bits.
+ */
+uint64_t hv_view(const uint8_t *table, size_t table_len, const uint8_t *file, size_t file_len, uint64_t row,
+                 uint64_t position, uint8_t *room, size_t room_len, uint64_t *out, size_t out_len);
+
+/*
+ * View, of the column that a plan of HV_PLAN_LEN numbers was made for. HV_SHORT also where the plan has fewer numbers.
+ * out: HV_VIEW_LEN numbers. Refusals: those of hv_plan; 12; 9; 14.
+ */
+uint64_t hv_view_planned(const uint8_t *table, size_t table_len, const uint8_t *file, size_t file_len, uint64_t row,
+                         const uint64_t *plan, size_t plan_len, uint8_t *room, size_t room_len, uint64_t *out,
+                         size_t out_len);
+
+#ifdef __cplusplus
+}
+#endif
+
+#endif

@@ -1,0 +1,478 @@
+/*
+ * Asks every question of include/helvidrane.h on the samples `small` and `arrays`: accepted, refused with each number, and
+ * with arrays that are too short. The answers are those of document 01 and of the independent model. It is C and C++.
+ *
+ * questions SAMPLES: exits with 1 at the first difference.
+ */
+#include "helvidrane.h"
+
+#include <stdio.h>
+#include <stdlib.h>
+#include <string.h>
+
+#define HOLD(condition, line) hold(condition, #condition, __FILE__, line)
+#define ACCEPTED(question, values) accepted(question, values, sizeof values / sizeof *values, __LINE__)
+#define REFUSED(question, number) refused(question, number, __LINE__)
+#define SHORT_ARRAYS(question) short_arrays(question, __LINE__)
+
+enum question { DESCRIPTION, COLUMN, MANAGER, BY_NAME, CHECK, PLAN, PLACE, PLACE_PLANNED, VIEW, VIEW_PLANNED };
+
+static const size_t answer_lens[] = {HV_DESCRIPTION_LEN, HV_COLUMN_LEN, HV_MANAGER_LEN, HV_POSITION_LEN, 0,
+                                     HV_PLAN_LEN,        HV_PLACE_LEN,  HV_PLACE_LEN,   HV_VIEW_LEN,     HV_VIEW_LEN};
+
+enum { BYTES_MOST = 1 << 20, OUT_MOST = 16, ROOM_MOST = HV_ROOM_MOST + 16 };
+
+struct bytes {
+    uint8_t at[BYTES_MOST];
+    size_t len;
+};
+
+/* What the next question is about. */
+static struct bytes table, file;
+static const char *name;
+static uint64_t number; /* a position, an index or a sequence number */
+static uint64_t row;
+static uint64_t plan[HV_PLAN_LEN];
+static size_t plan_len = HV_PLAN_LEN;
+static size_t room_len;
+static struct bytes text; /* what the room holds after acceptance, before the zeros */
+
+static uint8_t room[ROOM_MOST];
+static uint64_t out[OUT_MOST];
+
+static const uint8_t room_filling = 0xa5;
+static const uint64_t out_filling = UINT64_C(0xa5a5a5a5a5a5a5a5);
+
+static void hold(int right, const char *condition, const char *source, int line)
+{
+    if (!right) {
+        printf("%s:%d: not so: %s\n", source, line, condition);
+        exit(1);
+    }
+}
+
+static void read_file(struct bytes *bytes, const char *samples, const char *sample, const char *file_name)
+{
+    char path[4096];
+    FILE *stream;
+
+    snprintf(path, sizeof path, "%s/%s/%s", samples, sample, file_name);
+    stream = fopen(path, "rb");
+    if (stream == NULL) {
+        perror(path);
+        exit(2);
+    }
+    bytes->len = fread(bytes->at, 1, sizeof bytes->at, stream);
+    fclose(stream);
+}
+
+static uint64_t ask(enum question question, size_t out_len)
+{
+    size_t i;
+
+    for (i = 0; i < OUT_MOST; i++)
+        out[i] = out_filling;
+    memset(room, room_filling, sizeof room);
+    switch (question) {
+    case DESCRIPTION:
+        return hv_description(table.at, table.len, out, out_len);
+    case COLUMN:
+        return hv_column(table.at, table.len, number, out, out_len);
+    case MANAGER:
+        return hv_manager(table.at, table.len, number, out, out_len);
+    case BY_NAME:
+        return hv_column_by_name(table.at, table.len, (const uint8_t *)name, strlen(name), out, out_len);
+    case CHECK:
+        return hv_check(table.at, table.len, file.at, file.len, number, room, room_len);
+    case PLAN:
+        return hv_plan(table.at, table.len, file.at, file.len, number, room, room_len, out, out_len);
+    case PLACE:
+        return hv_place(table.at, table.len, file.at, file.len, row, number, room, room_len, out, out_len);
+    case PLACE_PLANNED:
+        return hv_place_planned(table.at, table.len, file.at, file.len, row, plan, plan_len, room, room_len, out, out_len);
+    case VIEW:
+        return hv_view(table.at, table.len, file.at, file.len, row, number, room, room_len, out, out_len);
+    case VIEW_PLANNED:
+        return hv_view_planned(table.at, table.len, file.at, file.len, row, plan, plan_len, room, room_len, out, out_len);
+    }
+    abort();
+}
+
+static int room_is(size_t from, size_t to, uint8_t byte)
+{
+    for (; from < to; from++)
+        if (room[from] != byte)
+            return 0;
+    return 1;
+}
+
+static int out_is(size_t from, size_t to, uint64_t value)
+{
+    for (; from < to; from++)
+        if (out[from] != value)
+            return 0;
+    return 1;
+}
+
+static void untouched_from(enum question question, size_t out_from, int line)
+{
+    HOLD(out_is(out_from, OUT_MOST, out_filling), line);
+    HOLD(room_is(question < CHECK ? 0 : room_len, ROOM_MOST, room_filling), line);
+}
+
+static void accepted(enum question question, const uint64_t *values, size_t count, int line)
+{
+    size_t n = answer_lens[question];
+    size_t out_len;
+
+    HOLD(question == CHECK || n == count, line);
+    for (out_len = n; out_len <= n + 3; out_len++) {
+        HOLD(ask(question, out_len) == HV_ACCEPTED, line);
+        HOLD(memcmp(out, values, n * sizeof *out) == 0, line);
+        untouched_from(question, n, line);
+        if (question >= CHECK) {
+            HOLD(memcmp(room, text.at, text.len) == 0, line);
+            HOLD(room_is(text.len, room_len, 0), line);
+        }
+    }
+}
+
+static void refused(enum question question, uint64_t refusal, int line)
+{
+    size_t n = answer_lens[question];
+    size_t out_len;
+
+    for (out_len = n; out_len <= n + 3; out_len++) {
+        HOLD(ask(question, out_len) == refusal, line);
+        HOLD(out_is(0, n, 0), line);
+        untouched_from(question, n, line);
+        if (question >= CHECK)
+            HOLD(room_is(0, room_len, 0), line);
+    }
+}
+
+/* Whether or not the question would be refused: nothing is written, the room included. */
+static void short_arrays(enum question question, int line)
+{
+    size_t out_len;
+
+    for (out_len = 0; out_len < answer_lens[question]; out_len++) {
+        HOLD(ask(question, out_len) == HV_SHORT, line);
+        HOLD(out_is(0, OUT_MOST, out_filling), line);
+        HOLD(room_is(0, ROOM_MOST, room_filling), line);
+    }
+}
+
+static void short_plans(enum question question, int line)
+{
+    for (plan_len = 0; plan_len < HV_PLAN_LEN; plan_len++) {
+        HOLD(ask(question, HV_PLACE_LEN) == HV_SHORT, line);
+        HOLD(out_is(0, OUT_MOST, out_filling), line);
+        HOLD(room_is(0, ROOM_MOST, room_filling), line);
+    }
+    HOLD(plan_len == HV_PLAN_LEN, line);
+}
+
+static void set_plan(const uint64_t *values)
+{
+    memcpy(plan, values, sizeof plan);
+}
+
+/* Document 01's small file: buckets of 64 bytes, the index text of 134 bytes in buckets 1, 3 and 4. */
+static void load_small(const char *samples)
+{
+    read_file(&table, samples, "small", "table.dat");
+    read_file(&file, samples, "small", "table.f0");
+    memcpy(text.at, file.at + 512 + 1 * 64 + 8, 56);
+    memcpy(text.at + 56, file.at + 512 + 3 * 64 + 8, 56);
+    memcpy(text.at + 112, file.at + 512 + 4 * 64 + 8, 22);
+    text.len = 134;
+    room_len = 134;
+}
+
+static void ask_of_table(void)
+{
+    const uint64_t description[] = {7, 1, 3, 1};
+    const uint64_t manager[] = {0, HV_STANDARD, 829, 13};
+    const char *const names[] = {"SCAN", "FLAG", "TIME"};
+    const uint64_t types[] = {HV_TYPE_INT, HV_TYPE_BOOL, HV_TYPE_DOUBLE};
+    const uint64_t bits[] = {32, 1, 64};
+    const uint64_t offsets[] = {0, 16, 17};
+    uint64_t k;
+
+    ACCEPTED(DESCRIPTION, description);
+    SHORT_ARRAYS(DESCRIPTION);
+
+    for (k = 0; k < 3; k++) {
+        uint64_t column[HV_COLUMN_LEN] = {0};
+        number = k;
+        ask(COLUMN, HV_COLUMN_LEN);
+        HOLD(memcmp(table.at + out[HV_COLUMN_NAME], names[k], 4) == 0, __LINE__);
+        column[HV_COLUMN_NAME] = out[HV_COLUMN_NAME];
+        column[HV_COLUMN_NAME_LEN] = 4;
+        column[HV_COLUMN_DATA_TYPE] = types[k];
+        column[HV_COLUMN_ELEMENTS] = 1;
+        column[HV_COLUMN_BITS] = bits[k];
+        column[HV_COLUMN_OFFSET] = offsets[k];
+        ACCEPTED(COLUMN, column);
+        SHORT_ARRAYS(COLUMN);
+        name = names[k];
+        accepted(BY_NAME, &k, 1, __LINE__);
+        SHORT_ARRAYS(BY_NAME);
+    }
+    number = 3;
+    REFUSED(COLUMN, HV_REFUSED_MISSING);
+    number = UINT64_MAX;
+    REFUSED(COLUMN, HV_REFUSED_MISSING);
+    name = "TIM";
+    REFUSED(BY_NAME, HV_REFUSED_MISSING);
+    name = "";
+    REFUSED(BY_NAME, HV_REFUSED_MISSING);
+
+    number = 0;
+    HOLD(memcmp(table.at + manager[HV_MANAGER_NAME], "StandardStMan", 13) == 0, __LINE__);
+    ACCEPTED(MANAGER, manager);
+    SHORT_ARRAYS(MANAGER);
+    number = 1;
+    REFUSED(MANAGER, HV_REFUSED_MISSING);
+}
+
+static void ask_of_cells(void)
+{
+    const uint64_t none[] = {0};
+    const uint64_t plans[3][HV_PLAN_LEN] = {{0, 0, HV_TYPE_INT, 1, 32, 0, 0, 4, 64},
+                                            {1, 0, HV_TYPE_BOOL, 1, 1, 0, 16, 4, 64},
+                                            {2, 0, HV_TYPE_DOUBLE, 1, 64, 0, 17, 4, 64}};
+    /* Cases A, B, C and D. */
+    const uint64_t cells[4][4] = {{5, 2, 4296, 64}, {2, 2, 5384, 64}, {5, 1, 4225, 1}, {6, 0, 4160, 32}};
+    int i, k;
+
+    number = 0;
+    ACCEPTED(CHECK, none);
+    number = 1;
+    REFUSED(CHECK, HV_REFUSED_MISSING);
+    number = UINT64_MAX;
+    REFUSED(CHECK, HV_REFUSED_MISSING);
+
+    for (i = 0; i < 3; i++) {
+        number = (uint64_t)i;
+        ACCEPTED(PLAN, plans[i]);
+        SHORT_ARRAYS(PLAN);
+    }
+    number = 3;
+    REFUSED(PLAN, HV_REFUSED_MISSING);
+
+    for (i = 0; i < 4; i++) {
+        const uint64_t *place = cells[i] + 2;
+        const uint64_t first_and_count[] = {place[0], place[1]};
+        const uint64_t start_and_length[] = {place[0] / 8, place[1] / 8};
+        row = cells[i][0];
+        number = cells[i][1];
+        set_plan(plans[number]);
+        ACCEPTED(PLACE, first_and_count);
+        ACCEPTED(PLACE_PLANNED, first_and_count);
+        if (number == 1) {
+            REFUSED(VIEW, HV_REFUSED_BOOL);
+            REFUSED(VIEW_PLANNED, HV_REFUSED_BOOL);
+        } else {
+            ACCEPTED(VIEW, start_and_length);
+            ACCEPTED(VIEW_PLANNED, start_and_length);
+        }
+        SHORT_ARRAYS(PLACE);
+        SHORT_ARRAYS(PLACE_PLANNED);
+        SHORT_ARRAYS(VIEW);
+        SHORT_ARRAYS(VIEW_PLANNED);
+        short_plans(PLACE_PLANNED, __LINE__);
+        short_plans(VIEW_PLANNED, __LINE__);
+    }
+
+    /* A row too many, also where the column is Bool: 9 comes before 14. */
+    for (i = 0; i < 3; i++) {
+        number = (uint64_t)i;
+        set_plan(plans[i]);
+        for (k = 0; k < 2; k++) {
+            row = k == 0 ? 7 : UINT64_MAX;
+            REFUSED(PLACE, HV_REFUSED_ROW);
+            REFUSED(PLACE_PLANNED, HV_REFUSED_ROW);
+            REFUSED(VIEW, HV_REFUSED_ROW);
+            REFUSED(VIEW_PLANNED, HV_REFUSED_ROW);
+        }
+    }
+
+    /* Each number of a plan counts; a position without a column is no stale plan. */
+    row = 7;
+    for (i = 0; i < HV_PLAN_LEN; i++) {
+        uint64_t refusal = i == HV_PLAN_POSITION ? HV_REFUSED_MISSING : HV_REFUSED_PLAN;
+        set_plan(plans[2]);
+        plan[i] += 1;
+        REFUSED(PLACE_PLANNED, refusal);
+        REFUSED(VIEW_PLANNED, refusal);
+    }
+
+    /* The index length is 134. */
+    row = 5;
+    number = 0;
+    set_plan(plans[0]);
+    for (room_len = 0; room_len < 134; room_len += 19) {
+        REFUSED(CHECK, HV_REFUSED_ROOM);
+        REFUSED(PLAN, HV_REFUSED_ROOM);
+        REFUSED(PLACE, HV_REFUSED_ROOM);
+        REFUSED(PLACE_PLANNED, HV_REFUSED_ROOM);
+        REFUSED(VIEW, HV_REFUSED_ROOM);
+        REFUSED(VIEW_PLANNED, HV_REFUSED_ROOM);
+    }
+    room_len = HV_ROOM_MOST;
+    ACCEPTED(CHECK, none);
+    ACCEPTED(PLAN, plans[0]);
+    room_len = 134;
+}
+
+/* The questions from `first` on are refused, each with the same number. */
+static void refused_from(enum question first, uint64_t refusal, int line)
+{
+    const uint64_t scan[HV_PLAN_LEN] = {0, 0, HV_TYPE_INT, 1, 32, 0, 0, 4, 64};
+    int question;
+
+    name = "SCAN";
+    number = 0;
+    row = 0;
+    set_plan(scan);
+    for (question = first; question <= VIEW_PLANNED; question++)
+        refused((enum question)question, refusal, line);
+    short_arrays(PLAN, line);
+    short_arrays(VIEW, line);
+}
+
+struct fault {
+    size_t at;
+    uint8_t byte;
+    uint64_t refusal;
+};
+
+static void ask_of_faults(void)
+{
+    static const struct fault in_table[] = {
+        {0, 0, HV_REFUSED_NAME},          /* the mark */
+        {0x14, 9, HV_REFUSED_VERSION},    /* Table's version */
+        {0x15, 0xff, HV_REFUSED_RANGE},   /* the row count */
+        {0x1c, 2, HV_REFUSED_VALUE},      /* the endianness */
+        {0x330, 8, HV_REFUSED_FACTS},     /* ColumnSet's row count */
+        {0x38d, 16, HV_REFUSED_LENGTH},   /* DMInfo's length */
+        {0x07, 0, HV_REFUSED_END},        /* Table's length */
+    };
+    static const struct fault in_file[] = {
+        {0, 0, HV_REFUSED_NAME},          /* the mark */
+        {0x1c, 9, HV_REFUSED_VERSION},    /* the header's version */
+        {0x1d, 2, HV_REFUSED_VALUE},      /* the endianness */
+        {0x1d, 0, HV_REFUSED_FACTS},      /* the other endianness */
+        {0x21, 0, HV_REFUSED_RANGE},      /* the bucket size */
+        {0x25, 6, HV_REFUSED_END},        /* the number of buckets */
+        {0x35, 2, HV_REFUSED_CHAIN},      /* case I: index number 2 for three links */
+        {0x45, 135, HV_REFUSED_LENGTH},   /* the index length */
+        {0x2f7, 2, HV_REFUSED_MAP},       /* the first last row: 2 */
+    };
+    size_t i;
+
+    room_len = 200;
+    for (i = 0; i < sizeof in_table / sizeof *in_table; i++) {
+        uint8_t before = table.at[in_table[i].at];
+        table.at[in_table[i].at] = in_table[i].byte;
+        refused_from(DESCRIPTION, in_table[i].refusal, __LINE__);
+        table.at[in_table[i].at] = before;
+    }
+    for (i = 0; i < sizeof in_file / sizeof *in_file; i++) {
+        uint8_t before = file.at[in_file[i].at];
+        file.at[in_file[i].at] = in_file[i].byte;
+        refused_from(CHECK, in_file[i].refusal, __LINE__);
+        file.at[in_file[i].at] = before;
+    }
+
+    /* Case G: TIME at 16, in FLAG's extent. */
+    table.at[0x3a5] = 16;
+    refused_from(CHECK, HV_REFUSED_MAP, __LINE__);
+    table.at[0x3a5] = 17;
+
+    for (i = 0; i < file.len; i += 64) {
+        size_t before = file.len;
+        file.len = i;
+        refused_from(CHECK, HV_REFUSED_END, __LINE__);
+        file.len = before;
+    }
+    for (i = 0; i < table.len; i += 64) {
+        size_t before = table.len;
+        table.len = i;
+        refused_from(DESCRIPTION, HV_REFUSED_END, __LINE__);
+        table.len = before;
+    }
+}
+
+/* Bytes after the Table object are not read, but they count. */
+static void ask_of_long_table(void)
+{
+    const uint64_t description[] = {7, 1, 3, 1};
+    size_t before = table.len;
+
+    table.len = 65536;
+    ACCEPTED(DESCRIPTION, description);
+    table.len = 65537;
+    refused_from(DESCRIPTION, HV_REFUSED_RANGE, __LINE__);
+    table.len = before;
+}
+
+/* Little endian, with four managers: table.f1 is IncrementalStMan's. */
+static void ask_of_incremental(const char *samples)
+{
+    const uint64_t description[] = {20, 0, 15, 4};
+    const uint64_t kinds[] = {HV_STANDARD, HV_INCREMENTAL, HV_OTHER_KIND, HV_OTHER_KIND};
+    const uint64_t sequences[] = {0, 1, 2, 4};
+    const uint64_t scan_number[] = {4, 1, HV_TYPE_INT, 1, 32, 0, 0, 0, 128};
+    const uint64_t place[] = {6368, 32};
+    const uint64_t view[] = {796, 4};
+    const uint64_t none[] = {0};
+
+    read_file(&table, samples, "arrays", "table.dat");
+    read_file(&file, samples, "arrays", "table.f1");
+    text.len = 0;
+
+    ACCEPTED(DESCRIPTION, description);
+    for (number = 0; number < 4; number++) {
+        HOLD(ask(MANAGER, HV_MANAGER_LEN) == HV_ACCEPTED, __LINE__);
+        HOLD(out[HV_MANAGER_SEQUENCE] == sequences[number] && out[HV_MANAGER_KIND] == kinds[number], __LINE__);
+    }
+    for (room_len = 0; room_len <= 40; room_len += 40) {
+        number = 1;
+        ACCEPTED(CHECK, none);
+        number = 2; /* TiledShapeStMan */
+        REFUSED(CHECK, HV_REFUSED_MISSING);
+        number = 6; /* its column FLAG */
+        REFUSED(PLAN, HV_REFUSED_MISSING);
+        REFUSED(VIEW, HV_REFUSED_MISSING);
+        number = 4;
+        row = 7;
+        set_plan(scan_number);
+        ACCEPTED(PLAN, scan_number);
+        ACCEPTED(PLACE, place);
+        ACCEPTED(PLACE_PLANNED, place);
+        ACCEPTED(VIEW, view);
+        ACCEPTED(VIEW_PLANNED, view);
+        row = 20;
+        REFUSED(PLACE, HV_REFUSED_ROW);
+        plan[HV_PLAN_BUCKET_SIZE] = 129;
+        REFUSED(VIEW_PLANNED, HV_REFUSED_PLAN);
+    }
+}
+
+int main(int argc, char **argv)
+{
+    if (argc != 2) {
+        fprintf(stderr, "usage: questions SAMPLES\n");
+        return 2;
+    }
+    load_small(argv[1]);
+    ask_of_table();
+    ask_of_cells();
+    ask_of_faults();
+    ask_of_long_table();
+    ask_of_incremental(argv[1]);
+    return 0;
+}
