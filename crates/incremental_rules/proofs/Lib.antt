@@ -4,3 +4,4 @@ pub mod Columns
 pub mod Search
 pub mod Rows
 pub mod Places
+pub mod Vectors

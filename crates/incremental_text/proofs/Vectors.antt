@@ -14,7 +14,7 @@ use Rattle.incremental_text.specs.Header.{fieldsAt, headed, headerIn, he
 use Rattle.incremental_text.specs.Index.{indexed, indexIn, indexAt}
 
 -- the n bytes of a number, the highest first
-abbrev row : ℕ → ℕ → List ℕ
+abbrev pub row : ℕ → ℕ → List ℕ
 row zero x = []
 row (suc n) x = (x / 256 ^ n) % 256 ∷ row n x
 

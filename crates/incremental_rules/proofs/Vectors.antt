@@ -1,0 +1,127 @@
+-- A small file, checked and placed by the definitions; and what faults in it give.
+--     rows 0 to 2 in bucket 1, rows 3 to 6 in bucket 0, bucket 2 free; SCAN Int and FLAG Bool are kept in it, the column between
+--     them is not
+-- Assumes nothing.
+use mathlib.Core.Path.{_≡_, refl}
+use mathlib.Core.List.{List, [], _∷_, _++_}
+use mathlib.Core.Bool.{Bool, true, false}
+use Prim.Native.Nat.{ℕ}
+use lib.ListN.{take, set, replicate}
+use Rattle.bytes_at.specs.Number.{bigFrom, uintOf}
+use Rattle.bytes_at.specs.Bytes.{sameBytes}
+use Rattle.bytes_at.specs.Loop.{after}
+use Rattle.bytes_at.specs.Stages.{_▷_, orNo}
+use Rattle.bytes_at.specs.Steps.{_>>=_}
+use Rattle.aipsio.specs.Field.{skipped, skippedEach, judged, settled, sizedAt, uintAt, rangedAt, agreed, markAt, textBefore, textAt, nameAt}
+use Rattle.aipsio.specs.Object.{entered, opened, closed, blockAt}
+use Rattle.column_desc.specs.declared.Column.{Column}
+use Rattle.column_desc.specs.ColumnDesc.{blank}
+use Rattle.column_set.specs.declared.Binding.{Binding}
+use Rattle.column_set.specs.ColumnSet.{noBinding}
+use Rattle.table.specs.declared.Description.{Description}
+use Rattle.buckets.specs.Chain.{links, freeOk}
+use Rattle.cell_map.specs.Tests.{all, pairs}
+use Rattle.row_index.specs.Numbers.{numbersAt}
+use Rattle.marks.specs.Different.{allApart}
+use Rattle.incremental_text.specs.Header.{fieldsAt, headed, headerIn}
+use Rattle.incremental_text.specs.Index.{indexed, indexIn}
+use Rattle.incremental_text.proofs.Vectors.{row, header, object}
+use Rattle.incremental_bucket.specs.Bucket.{dataAt, startFits, started, startInto, startsAt, offsetInto, offsetsAt, columnAt, columnInto, columnsAt, bucketAt}
+use Rattle.incremental_bucket.specs.Value.{lastBelow}
+use Rattle.incremental_rules.specs.Rules.{risesTo, firstsFit, indexFits, cellInto, cellsIn, foundAs, bucketInto, searchOf, refusalOf, checkedAs}
+use Rattle.incremental_rules.specs.Places.{partAt, bitOf, placeOf}
+
+-- bucket 0: index offset 10; SCAN has one value, FLAG two, from its rows 0 and 3 on
+abbrev bucket0 : List ℕ
+bucket0 =
+    row 4 10 ++ replicate 6 0
+    ++ row 12 0x000000010000000000000000
+    ++ row 20 0x0000000200000000000000030000000400000005
+    ++ replicate 22 0
+
+-- bucket 1: index offset 13; SCAN has two values, from its rows 0 and 2 on, FLAG one
+abbrev bucket1 : List ℕ
+bucket1 =
+    row 4 13 ++ replicate 9 0
+    ++ row 20 0x0000000200000000000000020000000000000004
+    ++ row 12 0x000000010000000000000008
+    ++ replicate 19 0
+
+-- bucket 2 ends the free list
+abbrev bucket2 : List ℕ
+bucket2 = row 4 0xffffffff ++ replicate 60 0
+
+abbrev file : List ℕ
+file = header ++ replicate 455 0 ++ bucket0 ++ bucket1 ++ bucket2 ++ object
+
+abbrev column : ℕ → ℕ → Column
+column number bits = record {
+  start = 0;
+  len = 0;
+  datatype = record { number = number; bits = 0 };
+  array = false;
+  options = 0;
+  elements = 1;
+  maximum = 0;
+  bits = bits;
+}
+
+abbrev kept : ℕ → Binding
+kept sequence = record { sequence = sequence; set = 0; offset = 0 }
+
+abbrev table : Bool → Description
+table big = record {
+  refused = 0;
+  rows = 7;
+  «column_count» = 3;
+  «manager_count» = 0;
+  columns = column 5 32 ∷ column 8 64 ∷ column 0 1 ∷ [];
+  bindings = kept 0 ∷ kept 1 ∷ kept 0 ∷ [];
+  managers = [];
+  big = big;
+}
+
+abbrev refused : List ℕ → ℕ
+refused f = refusalOf (table true) 0 f 0
+
+-- SCAN in rows 0, 2 and 6; FLAG in rows 5 and 6, a whole byte
+pub places :
+    (refused file ≡ 0)
+    × (placeOf (table true) 0 file 0 0 ≡ record { first = 4640; count = 32 })
+    × (placeOf (table true) 0 file 0 2 ≡ record { first = 4672; count = 32 })
+    × (placeOf (table true) 0 file 0 6 ≡ record { first = 4128; count = 32 })
+    × (placeOf (table true) 0 file 2 5 ≡ record { first = 4160; count = 8 })
+    × (placeOf (table true) 0 file 2 6 ≡ record { first = 4168; count = 8 })
+    × (checkedAs (table true) 0 file 0 2 6 ≡ record { refused = 0; size = 64; first = 4168 })
+    × (checkedAs (table true) 0 file 8 2 6 ≡ record { refused = 8; size = 0; first = 0 })
+unfolding bigFrom uintOf sameBytes skipped skippedEach judged settled sizedAt uintAt rangedAt agreed markAt textBefore textAt nameAt entered opened closed blockAt fieldsAt headed headerIn indexed indexIn links freeOk numbersAt all pairs allApart dataAt startFits started startInto startsAt offsetInto offsetsAt columnAt columnInto columnsAt bucketAt lastBelow partAt bitOf placeOf risesTo firstsFit indexFits cellInto cellsIn foundAs bucketInto searchOf refusalOf checkedAs blank noBinding _▷_ orNo after _>>=_
+places = (refl, refl, refl, refl, refl, refl, refl, refl)
+
+-- a file that ends in the last bucket; the other endianness; Blocks shorter than the count; a free list that does not end; a free
+-- bucket in the index; a bucket out of range; first rows that end past the row count
+pub file-faults :
+    (refused (take 703 file) ≡ 1)
+    × (refusalOf (table false) 0 file 0 ≡ 6)
+    × (refused (set file 731 3) ≡ 6)
+    × (refused (set file 643 0) ≡ 10)
+    × (refused (set file 789 2) ≡ 11)
+    × (refused (set file 789 3) ≡ 11)
+    × (refused (set file 764 8) ≡ 11)
+unfolding bigFrom uintOf sameBytes skipped skippedEach judged settled sizedAt uintAt rangedAt agreed markAt textBefore textAt nameAt entered opened closed blockAt fieldsAt headed headerIn indexed indexIn links freeOk numbersAt all pairs allApart dataAt startFits started startInto startsAt offsetInto offsetsAt columnAt columnInto columnsAt bucketAt risesTo firstsFit indexFits cellInto cellsIn foundAs bucketInto searchOf refusalOf blank noBinding _▷_ orNo after _>>=_
+file-faults = (refl, refl, refl, refl, refl, refl, refl)
+
+-- in bucket 0, an index offset whose high byte is 1, of 3, of 65, and of 64, where the bucket ends; no value of SCAN; a first start
+-- of 1; a start at the bucket's row count, and one that does not rise; SCAN's value at offset 2, which ends the data part, and at 3
+pub bucket-faults :
+    (refused (set file 512 1) ≡ 3)
+    × (refused (set file 515 3) ≡ 11)
+    × (refused (set file 515 65) ≡ 11)
+    × (refused (set file 515 64) ≡ 1)
+    × (refused (set file 525 0) ≡ 11)
+    × (refused (set file 529 1) ≡ 11)
+    × (refused (set file 545 4) ≡ 11)
+    × (refused (set file 545 0) ≡ 11)
+    × (refused (set file 533 2) ≡ 0)
+    × (refused (set file 533 3) ≡ 11)
+unfolding bigFrom uintOf sameBytes skipped skippedEach judged settled sizedAt uintAt rangedAt agreed markAt textBefore textAt nameAt entered opened closed blockAt fieldsAt headed headerIn indexed indexIn links freeOk numbersAt all pairs allApart dataAt startFits started startInto startsAt offsetInto offsetsAt columnAt columnInto columnsAt bucketAt risesTo firstsFit indexFits cellInto cellsIn foundAs bucketInto searchOf refusalOf blank noBinding _▷_ orNo after _>>=_
+bucket-faults = (refl, refl, refl, refl, refl, refl, refl, refl, refl, refl)
