@@ -61,7 +61,7 @@ fn read_fields(s: &[u8], c: Cursor, big: bool) -> HeaderFields
     ensures { λ r. ⌜ r ≡ fieldsAt (now (s .entry)) c big ⌝ }
     ensures words { λ r. ⌜ (r .«free_count» < 4294967296) × (r .«first_free» < 4294967296) ⌝ }
 {
-    let o = aipsio::open(s, c, b"IncrementalStMan", 5, 5);
+    let o = aipsio::open_text(s, c, 16, b"Incremen", b"talStMan", 5, 5);
     let flag = aipsio::flag(s, o.next);
     let same = same_endian(flag.value, big);
     let d = aipsio::judge(flag.next, o.next.at, same, 6);
@@ -156,7 +156,7 @@ pub fn read_index(f: &[u8], at: usize) -> Index
         refused: 0,
     };
     let m = aipsio::mark(f, start);
-    let o = aipsio::open(f, m, b"ISMIndex", 1, 1);
+    let o = aipsio::open_text(f, m, 8, b"ISMIndex", b"ISMIndex", 1, 1);
     let n = aipsio::uint(f, o.next);
     let firsts = aipsio::block(f, n.next, n.value + 1, 4);
     let buckets = aipsio::block(f, firsts.next, n.value, 4);

@@ -9,7 +9,7 @@ use Rattle.incremental_text.proofs.read_fields.Tie as tie
 returns : tie.Need-returns
 unfolding fieldsAt
 returns c = (
-  via _ (c .before .before .before .before .before .before .before .before .before .before .«open» .ensures) (
+  via _ (c .before .before .before .before .before .before .before .before .before .before .open-text .ensures) (
       via _ (c .before .before .before .before .before .before .before .before .before .flag .ensures .0) (
       via _ (c .before .before .before .before .before .before .before .before .same-endian .ensures) (
       via _ (c .before .before .before .before .before .before .before .judge .ensures) (
@@ -24,4 +24,4 @@ returns c = (
 )
 
 pub read-fields-spec : {M : Type 1} → statement M
-read-fields-spec = tie.close (tie.spec (λ c. search needs) free free free free free free free free free free returns)
+read-fields-spec = tie.close (tie.spec (λ c κs. search needs) free free free free free free free free free returns)
