@@ -14,17 +14,33 @@ scratch=$(mktemp -d)
 trap 'rm -r "$scratch"' EXIT
 saved=$scratch/difference.txt
 
+# wrong MESSAGE: ends these tests.
+wrong() {
+    echo "selftest: $1:" >&2
+    head -c 2000 "$scratch/output" >&2
+    exit 1
+}
+
+# ends_with STATUS COMMAND...: the command ends with this status; its output is kept.
+ends_with() {
+    status=0
+    wanted=$1
+    shift
+    "$@" >"$scratch/output" 2>&1 || status=$?
+    [ "$status" = "$wanted" ] || wrong "$*: status $status instead of $wanted"
+}
+
+# says MESSAGE: the output has a line with this message.
+says() {
+    grep -q -e "$1" "$scratch/output" || wrong "not '$1'"
+}
+
 # expect STATUS MESSAGE ARGUMENT...: compare ends with this status and says so.
 expect() {
-    status=0
     wanted=$1 message=$2
     shift 2
-    "$bin/compare" --save "$saved" "$@" >"$scratch/output" 2>&1 || status=$?
-    if [ "$status" != "$wanted" ] || ! grep -q -e "$message" "$scratch/output"; then
-        echo "selftest: compare $*: status $status instead of $wanted, or not '$message':" >&2
-        head -c 2000 "$scratch/output" >&2
-        exit 1
-    fi
+    ends_with "$wanted" "$bin/compare" --save "$saved" "$@"
+    says "$message"
 }
 
 expect 0 "no difference" --min 12000 --each 1..8 tables 1 12000 , large 1 20 , bad -- "$model"
@@ -54,6 +70,20 @@ expect 1 "does not start" tables 1 100 -- "$scratch/none"
 expect 1 "are needed" --min 101 tables 1 100 -- "$model"
 expect 1 "did not occur: 9" --each 1..9 tables 1 3000 -- "$model"
 expect 2 "usage" tables -- "$model"
+
+# A campaign asks as many requests as it says, and tells how to ask the one with a difference again.
+ends_with 0 ../campaign 5 1234 -- "$model"
+says "^1234 requests compared, no difference"
+ends_with 1 ../campaign 5 1234 -- sh -c "'$model' | sed 's/^refused 11/refused 1/'"
+again=$(sed -n 's/^campaign: to ask it again: //p' "$scratch/output")
+ends_with 1 sh -c "cd ../.. && $again"
+says "difference at request 1 "
+ends_with 0 ../campaign --help
+for arguments in "" 5 "5 0" "5 x" "-5 1" "5 100000001" "5 1 2" "5 1 --"; do
+    # Each word is an argument.
+    # shellcheck disable=SC2086
+    ends_with 2 ../campaign $arguments
+done
 
 # The same seed gives the same requests, and the samples are up to date.
 for set in tables standard incremental; do
