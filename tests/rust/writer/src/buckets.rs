@@ -4,7 +4,7 @@
 //! As in [`crate::table`], every field is free. Numbers of the header are
 //! computed when the file is encoded, unless others are stated.
 
-use crate::encode::Encoder;
+use crate::encode::{Encoder, Layout};
 use crate::rng::Rng;
 use crate::table::{Column, Header, Table};
 
@@ -37,6 +37,10 @@ pub trait BucketFile: Clone {
     fn encode(&self) -> Vec<u8>;
     /// Rows at both sides of each border between buckets or values.
     fn border_rows(&self) -> Vec<u32>;
+    /// The index text, or the ISMIndex and the bytes after it.
+    fn index_layout(&self) -> Layout;
+    /// The headers of the index's objects, in file order.
+    fn index_headers_mut(&mut self) -> Vec<&mut Header>;
     /// The length of the index text; 0 where no room is needed.
     fn index_length(&self) -> usize;
     /// Whether the cells of a column of the manager have a place.

@@ -87,25 +87,6 @@ impl IncrementalFile {
         Self { buckets, unique_column: 0, index, data, is_big_endian }
     }
 
-    /// What follows the buckets: the ISMIndex and the bytes after it.
-    pub fn index_layout(&self) -> Layout {
-        let mut out = Encoder::default();
-        out.bytes(&self.index.mark);
-        out.object(&self.index.header, |out| {
-            out.uint(self.index.count.unwrap_or(self.index.buckets.elements.len() as u32));
-            self.index.first_rows.encode(out);
-            self.index.buckets.encode(out);
-        });
-        out.bytes(&self.buckets.trailing);
-        out.layout()
-    }
-
-    /// The headers of the ISMIndex and its Blocks, in file order.
-    pub fn index_headers_mut(&mut self) -> Vec<&mut Header> {
-        let index = &mut self.index;
-        vec![&mut index.header, &mut index.first_rows.header, &mut index.buckets.header]
-    }
-
     /// A number of a bucket.
     pub fn number(&self, number: u32) -> [u8; 4] {
         if self.is_big_endian { number.to_be_bytes() } else { number.to_le_bytes() }
@@ -159,6 +140,23 @@ impl BucketFile for IncrementalFile {
         let before: Vec<u32> = rows.iter().map(|row| row.saturating_sub(1)).collect();
         rows.extend(before);
         rows
+    }
+
+    fn index_layout(&self) -> Layout {
+        let mut out = Encoder::default();
+        out.bytes(&self.index.mark);
+        out.object(&self.index.header, |out| {
+            out.uint(self.index.count.unwrap_or(self.index.buckets.elements.len() as u32));
+            self.index.first_rows.encode(out);
+            self.index.buckets.encode(out);
+        });
+        out.bytes(&self.buckets.trailing);
+        out.layout()
+    }
+
+    fn index_headers_mut(&mut self) -> Vec<&mut Header> {
+        let index = &mut self.index;
+        vec![&mut index.header, &mut index.first_rows.header, &mut index.buckets.header]
     }
 
     fn index_length(&self) -> usize {

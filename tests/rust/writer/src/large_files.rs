@@ -21,14 +21,14 @@ pub fn case(rng: &mut Rng, number: u64) -> Asked {
         1..=6 => {
             let mut subject = standard(rng);
             if rng.chance(1, 2) {
-                (rng.pick(standard::faults::FAULTS).apply)(rng, &mut subject);
+                (rng.pick(&standard::faults::faults()).apply)(rng, &mut subject);
             }
             Asked::new(&subject)
         }
         _ => {
             let mut subject = incremental(rng);
             if rng.chance(1, 2) {
-                (rng.pick(incremental::faults::FAULTS).apply)(rng, &mut subject);
+                (rng.pick(&incremental::faults::faults()).apply)(rng, &mut subject);
             }
             Asked::new(&subject)
         }

@@ -191,21 +191,7 @@ fn change_bytes(rng: &mut Rng, bytes: &mut Vec<u8>) {
     let length = bytes.len();
     for _ in 0..rng.within(1..=3) {
         let index = rng.below(bytes.len());
-        match rng.below(6) {
-            0 => bytes[index] = rng.byte(),
-            1 => bytes[index] ^= 1 << rng.below(8),
-            2 => bytes[index] = bytes[index].wrapping_add(1),
-            3 => bytes[index] = rng.pick(&[0, 1, 2, 255]),
-            4 => {
-                let end = bytes.len().min(index + rng.within(1..=8));
-                bytes.drain(index..end);
-            }
-            _ => {
-                let count = rng.within(1..=8);
-                let inserted = rng.bytes(count);
-                bytes.splice(index..index, inserted);
-            }
-        }
+        faults::spoil(rng, bytes, index);
     }
     // The Table object's length may follow what was removed or inserted.
     if bytes.len() >= 8 && rng.chance(1, 2) {

@@ -134,18 +134,6 @@ impl StandardFile {
         out.layout()
     }
 
-    /// The headers of the text's objects, in file order.
-    pub fn text_headers_mut(&mut self) -> Vec<&mut Header> {
-        let mut headers = Vec::new();
-        for index in &mut self.indices {
-            headers.push(&mut index.header);
-            headers.push(&mut index.free_space.header);
-            headers.push(&mut index.last_rows.header);
-            headers.push(&mut index.buckets.header);
-        }
-        headers
-    }
-
     /// The bytes of text that the index buckets hold.
     pub fn text_room(&self) -> usize {
         let size = self.buckets.size as usize;
@@ -218,6 +206,21 @@ impl BucketFile for StandardFile {
     fn border_rows(&self) -> Vec<u32> {
         let last_rows = self.indices.iter().flat_map(|index| &index.last_rows.elements);
         last_rows.flat_map(|last| [*last, last.saturating_add(1)]).collect()
+    }
+
+    fn index_layout(&self) -> Layout {
+        self.text()
+    }
+
+    fn index_headers_mut(&mut self) -> Vec<&mut Header> {
+        let mut headers = Vec::new();
+        for index in &mut self.indices {
+            headers.push(&mut index.header);
+            headers.push(&mut index.free_space.header);
+            headers.push(&mut index.last_rows.header);
+            headers.push(&mut index.buckets.header);
+        }
+        headers
     }
 
     fn index_length(&self) -> usize {

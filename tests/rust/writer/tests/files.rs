@@ -116,12 +116,12 @@ fn assert_faults<F: BucketFile>(faults: &[Fault<F>], generate: fn(&mut Rng) -> S
 
 #[test]
 fn every_standard_fault_is_refused_as_expected() {
-    assert_faults(standard::faults::FAULTS, standard::generate::subject);
+    assert_faults(&standard::faults::faults(), standard::generate::subject);
 }
 
 #[test]
 fn every_incremental_fault_is_refused_as_expected() {
-    assert_faults(incremental::faults::FAULTS, incremental::generate::subject);
+    assert_faults(&incremental::faults::faults(), incremental::generate::subject);
 }
 
 /// Each fault gives at least one refusal, but for those that are none.
@@ -152,7 +152,7 @@ fn every_standard_fault_is_reached() {
         "free-space contents",
         "more free buckets",
     ];
-    assert_reached(standard::faults::FAULTS, standard::generate::subject, &harmless);
+    assert_reached(&standard::faults::faults(), standard::generate::subject, &harmless);
 }
 
 #[test]
@@ -164,7 +164,7 @@ fn every_incremental_fault_is_reached() {
         "more free buckets",
         "bucket not in the index",
     ];
-    assert_reached(incremental::faults::FAULTS, incremental::generate::subject, &harmless);
+    assert_reached(&incremental::faults::faults(), incremental::generate::subject, &harmless);
 }
 
 #[test]
