@@ -1,7 +1,7 @@
 -- The loops over the columns of a table and over the buckets of the index: what a turn gives.
 -- Assumes nothing.
-use mathlib.Core.Path.{_≡_, refl, sym, ap, _∙_}
-use mathlib.Core.Bool.{Bool, true, false, cond}
+use mathlib.Core.Path.{_≡_, refl, sym}
+use mathlib.Core.Bool.{Bool, true, cond}
 use mathlib.Core.List.{List}
 use Prim.Native.Nat.{ℕ, _+_, _-_, _*_, _≤_, _<_}
 use native.Mathlib.Nat.{mul-le-mul}
@@ -24,7 +24,7 @@ use Rattle.incremental_text.specs.declared.Index.{Index}
 use Rattle.incremental_bucket.specs.Bucket.{bucketAt}
 use Rattle.incremental_rules.specs.declared.Cells.{Cells}
 use Rattle.incremental_rules.specs.declared.Found.{Found}
-use Rattle.incremental_rules.specs.Rules.{cellBytes, cellInto, foundAs, bucketInto, nothing, searchOf}
+use Rattle.incremental_rules.specs.Rules.{cellBytes, cellInto, foundAs, bucketInto, nothing}
 
 -- ---- columns
 module _ (cs : List Column) (bs : List Binding) (sequence position : ℕ) (cells : Cells) (k : ℕ) where

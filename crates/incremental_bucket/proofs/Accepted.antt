@@ -18,7 +18,6 @@ use Rattle.aipsio.specs.declared.Cursor.{Cursor}
 use Rattle.aipsio.specs.declared.Value.{Value}
 use Rattle.aipsio.specs.Field.{movedTo, skipped, judged, settled, sizedAt, uintAt}
 use Rattle.aipsio.proofs.Kept.{Clean, clean-before, uint-reads, judged-keeps, skipped-keeps, _⨟_}
-use Rattle.aipsio.proofs.Sides.{settle-on}
 use Rattle.aipsio.proofs.Accepted.{judged-passed, judged-is, judged-within, skipped-is, sized-fits, sized-is, uint-is}
 use Rattle.incremental_bucket.specs.declared.Starts.{Starts}
 use Rattle.incremental_bucket.specs.Bucket.{dataAt, startFits, started, startInto, startsAt, offsetInto, offsetsAt, columnAt, columnInto, columnsAt, bucketAt}

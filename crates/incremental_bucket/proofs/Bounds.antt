@@ -2,21 +2,20 @@
 -- Assumes nothing.
 use mathlib.Core.Path.{_≡_, refl}
 use mathlib.Core.List.{List}
-use mathlib.Core.Bool.{Bool, true, false, cond, _&&_}
-use Prim.Native.Nat.{ℕ, zero, suc, _+_, _-_, _≤_, zero-le}
+use mathlib.Core.Bool.{Bool, true, false, cond}
+use Prim.Native.Nat.{ℕ, zero, suc, _+_, _≤_, zero-le}
 use native.Mathlib.Omega.{arith}
-use lib.ListN.{getD}
-use lib.Dec.{leb, eqb}
+use lib.Dec.{eqb}
 use borrow.Author.Tests.{leb-true}
 use Rattle.bytes_at.specs.Loop.{after}
 use Rattle.bytes_at.specs.Steps.{_>>=_}
 use Rattle.aipsio.specs.declared.Cursor.{Cursor}
 use Rattle.aipsio.specs.declared.Value.{Value}
-use Rattle.aipsio.specs.Field.{judged, uintAt}
-use Rattle.aipsio.proofs.Kept.{Clean, clean-before, skipped-keeps}
+use Rattle.aipsio.specs.Field.{uintAt}
+use Rattle.aipsio.proofs.Kept.{clean-before, skipped-keeps}
 use Rattle.aipsio.proofs.Accepted.{judged-passed, judged-within}
 use Rattle.aipsio.proofs.Bounds.{settled-le}
-use Rattle.incremental_bucket.specs.Bucket.{dataAt, startsAt, offsetInto, offsetsAt, columnAt, columnInto, columnsAt, bucketAt}
+use Rattle.incremental_bucket.specs.Bucket.{dataAt, offsetInto, offsetsAt, columnAt, columnInto, columnsAt, bucketAt}
 
 -- one of two numbers
 pub cond-le : (t : Bool) {a b m r : ℕ} → a ≤ m → b ≤ m → r ≡ cond t a b → r ≤ m

@@ -5,7 +5,7 @@
 -- Assumes nothing.
 use mathlib.Core.Path.{_≡_, refl, sym, ap, _∙_}
 use mathlib.Core.List.{List}
-use mathlib.Core.Bool.{Bool, true, false, cond, _&&_, false≢true}
+use mathlib.Core.Bool.{Bool, true, false, _&&_, false≢true}
 use Prim.Native.Nat.{ℕ, _+_, _-_, _≤_, _<_}
 use native.Mathlib.Omega.{arith}
 use lib.Dec.{leb, ltb, eqb}
@@ -14,7 +14,7 @@ use Rattle.bytes_at.specs.Number.{uintOf}
 use Rattle.bytes_at.proofs.Stepped.{via}
 use Rattle.aipsio.specs.declared.Cursor.{Cursor}
 use Rattle.aipsio.specs.declared.Value.{Value}
-use Rattle.aipsio.specs.Field.{refusedAt, movedTo, leftIn, skipped, judged, settled, uintAt}
+use Rattle.aipsio.specs.Field.{refusedAt, movedTo, leftIn, judged, uintAt}
 use Rattle.aipsio.proofs.Kept.{Clean, Refused, refused-reads, skipped-keeps, judged-keeps, settled-none, uint-reads}
 use Rattle.aipsio.proofs.Sides.{judge-on, judge-refused, skip-on, skip-refused, settle-on}
 use Rattle.incremental_bucket.specs.declared.Starts.{Starts}

@@ -19,7 +19,7 @@ use Rattle.bytes_at.proofs.Loops.{after-none, after-more, after-all, after-stop
 use Rattle.bytes_at.proofs.Stepped.{via}
 use Rattle.aipsio.specs.declared.Cursor.{Cursor}
 use Rattle.aipsio.specs.declared.Value.{Value}
-use Rattle.aipsio.specs.Field.{refusedAt, movedTo, leftIn, judged, uintAt}
+use Rattle.aipsio.specs.Field.{refusedAt, movedTo, leftIn, uintAt}
 use Rattle.aipsio.proofs.Kept.{Clean, Refused, refused-reads, judged-keeps, settled-none, uint-reads}
 use Rattle.aipsio.proofs.Sides.{judge-on, judge-refused, settle-on}
 use Rattle.aipsio.proofs.Ways.{sized-short, sized-on}

@@ -2,11 +2,10 @@
 -- Assumes nothing.
 use mathlib.Core.Path.{_≡_, refl, sym, ap, _∙_}
 use mathlib.Core.List.{List}
-use mathlib.Core.Bool.{Bool, true, false, cond}
+use mathlib.Core.Bool.{Bool, true}
 use Prim.Native.Nat.{ℕ, zero, suc, _+_, _-_}
 use native.Mathlib.Decide.{ℕ-discrete}
 use lib.ListN.{getD}
-use lib.Dec.{eqb}
 use borrow.Author.Tests.{eq-eqb, ne-eqb}
 use Rattle.bytes_at.specs.Loop.{after}
 use Rattle.bytes_at.specs.Stages.{_▷_}
@@ -22,7 +21,7 @@ use Rattle.incremental_bucket.specs.Bucket.{bucketAt}
 use Rattle.incremental_bucket.proofs.AnyCell.{any-cell}
 use Rattle.incremental_rules.specs.declared.Cells.{Cells}
 use Rattle.incremental_rules.specs.declared.Found.{Found}
-use Rattle.incremental_rules.specs.Rules.{cellInto, noCells, cellsIn, foundAs, bucketInto, nothing, searchOf}
+use Rattle.incremental_rules.specs.Rules.{cellInto, cellsIn, foundAs, bucketInto, nothing, searchOf}
 
 -- the same columns, whichever is asked for
 pub record SameCells (a b : Cells) : Type 0 where

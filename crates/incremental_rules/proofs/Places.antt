@@ -1,36 +1,32 @@
 -- Of every accepted file, every row and every column of it that is no String: the place lies in the data part of the bucket that the
 -- index gives to the row, off the header, the free buckets and the ISMIndex; and it is where the check finds the cell.
 -- Assumes nothing.
-use mathlib.Core.Path.{_≡_, refl, sym, ap, _∙_}
+use mathlib.Core.Path.{_≡_, ap, _∙_}
 use mathlib.Core.List.{List}
-use mathlib.Core.Bool.{Bool, true, false, cond}
-use Prim.Native.Nat.{ℕ, _+_, _-_, _*_, _≤_, _<_}
-use native.Mathlib.Decide.{ℕ-discrete, decLt}
+use Prim.Native.Nat.{ℕ, _+_, _-_, _≤_, _<_}
+use native.Mathlib.Decide.{decLt}
 use native.Mathlib.Omega.{arith}
-use lib.ListN.{length, getD}
-use lib.Dec.{T, eqb}
-use borrow.Author.Tests.{eq-eqb, ne-eqb}
+use lib.ListN.{getD}
+use lib.Dec.{T}
+use borrow.Author.Tests.{ne-eqb}
 use Rattle.bytes_at.specs.Number.{uintOf}
-use Rattle.bytes_at.specs.Stages.{_▷_, orNo}
 use Rattle.bytes_at.proofs.Stages.{then-left, then-right, or-passed}
 use Rattle.column_desc.specs.ColumnDesc.{blank}
 use Rattle.column_set.specs.ColumnSet.{noBinding}
 use Rattle.table.specs.declared.Description.{Description}
-use Rattle.buckets.specs.Chain.{startOf, links}
-use Rattle.cell_map.specs.Map.{Bits}
+use Rattle.buckets.specs.Chain.{startOf}
 use Rattle.cell_map.specs.Fits.{ceil8}
-use Rattle.cell_map.specs.Demand.{Apart, Inside}
+use Rattle.cell_map.specs.Demand.{Apart}
 use Rattle.cell_map.proofs.Places.{step}
 use Rattle.incremental_text.specs.declared.Header.{Header}
 use Rattle.incremental_text.specs.declared.Index.{Index}
 use Rattle.incremental_text.specs.Header.{headerAt}
-use Rattle.incremental_bucket.specs.Value.{partOf, offsetIn}
+use Rattle.incremental_bucket.specs.Value.{offsetIn}
 use Rattle.incremental_bucket.proofs.Accepted.{InBucket, bucket-read}
 use Rattle.incremental_rules.specs.declared.Cells.{Cells}
 use Rattle.incremental_rules.specs.declared.Found.{Found}
-use Rattle.incremental_rules.specs.declared.Checked.{Checked}
 use Rattle.incremental_rules.specs.Rules.{indexFits, cellBytes, cellsOf, searchOf, indexOf, refusalOf, firstBit, checkedAs}
-use Rattle.incremental_rules.specs.Places.{firstRow, bucketNumber, entryOf, isBound, partAt, bitOf, bitsOf, placeOf, bucketBits, dataBits, indexBits, Safe, Kept, EveryPlace}
+use Rattle.incremental_rules.specs.Places.{firstRow, bucketNumber, entryOf, isBound, partAt, bitOf, placeOf, bucketBits, Safe, EveryPlace}
 use Rattle.incremental_rules.proofs.AnyCell.{cells-same, search-same}
 use Rattle.incremental_rules.proofs.Columns.{Asked, asked-is}
 use Rattle.incremental_rules.proofs.Search.{FoundIn, bucketIn, search-found}

@@ -2,7 +2,7 @@
 -- Assumes nothing.
 use mathlib.Core.Path.{_≡_, refl, sym, ap, _∙_}
 use mathlib.Core.List.{List, _++_}
-use mathlib.Core.Bool.{Bool, true, false}
+use mathlib.Core.Bool.{true}
 use Prim.Native.Nat.{ℕ, zero, suc, _+_, _*_, _≤_, _<_, zero-le}
 use native.Mathlib.Decide.{ℕ-discrete, decLt}
 use native.Mathlib.Numerals.{add-one}
@@ -19,7 +19,6 @@ use Rattle.marks.specs.Different.{allApart}
 use Rattle.marks.proofs.Apart.{front-below, front-back}
 use Rattle.incremental_text.specs.declared.Header.{Header}
 use Rattle.incremental_text.specs.declared.Index.{Index}
-use Rattle.incremental_bucket.specs.Value.{lastBelow}
 use Rattle.incremental_bucket.proofs.Last.{last-below, last-passes, last-later}
 use Rattle.incremental_rules.specs.Rules.{risesTo, firstsFit, indexFits}
 use Rattle.incremental_rules.specs.Places.{firstRow, bucketNumber, entryOf}

@@ -3,14 +3,13 @@
 use mathlib.Core.Path.{_≡_, refl, sym, ap, _∙_}
 use mathlib.Core.List.{List}
 use mathlib.Core.Bool.{Bool, true, false, cond, false≢true}
-use Prim.Native.Nat.{ℕ, zero, suc, _+_, _-_, _≤_, _<_}
+use Prim.Native.Nat.{ℕ, zero, suc, _+_, _-_, _<_}
 use native.Mathlib.Decide.{ℕ-discrete}
 use native.Mathlib.Nat.{not-suc-le-zero}
 use native.Mathlib.Omega.{arith}
 use lib.Dec.{leb}
 use borrow.Author.Tests.{eq-eqb}
 use Rattle.bytes_at.specs.Loop.{after}
-use Rattle.bytes_at.specs.Stages.{_▷_}
 use Rattle.bytes_at.specs.Steps.{_>>=_}
 use Rattle.bytes_at.proofs.Stages.{then-left, then-right}
 use Rattle.aipsio.specs.declared.Value.{Value}

@@ -1,7 +1,7 @@
 // The header and the index object of an IncrementalStMan file (document 01, "IncrementalStMan"; Note 260, 3.4.3: Header, Bucket
 // Index).
 ghost use mathlib.Core.Path.{_≡_};
-ghost use Prim.Native.Nat.{_≤_, _<_};
+ghost use Prim.Native.Nat.{_<_};
 ghost use lib.ListN.{length};
 ghost use Rattle.standard_text.specs.Header.{headerRoom, sameEndian};
 ghost use Rattle.incremental_text.specs.Header.{fieldsAt, headed, headerAt, HeaderBounds, HeaderWords};

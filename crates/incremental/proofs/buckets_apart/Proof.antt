@@ -1,5 +1,4 @@
 -- `incremental::buckets_apart` meets its contract: the marks of two lists, one after the other, decide.
-use native.Mathlib.Omega.{arith}
 use borrow.Author.Needs.{needs}
 use borrow.Author.Tests.{not-true, not-false}
 use Rattle.marks.proofs.Decided.{marks-no, marks-all}

@@ -1,7 +1,7 @@
 -- `incremental::check` meets its contract: a law for each way out.
 use borrow.Author.Needs.{needs}
 use borrow.Author.Tests.{not-true, not-false}
-use mathlib.Core.Path.{refl, sym, _∙_}
+use mathlib.Core.Path.{sym, _∙_}
 use native.Mathlib.Omega.{arith}
 use Rattle.bytes_at.proofs.Stepped.{free}
 use Rattle.standard_text.proofs.HeaderLaws.{area-most}

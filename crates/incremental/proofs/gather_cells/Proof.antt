@@ -1,6 +1,6 @@
 -- `incremental::gather_cells` meets its contract. The loop's invariant: after k turns the columns are the definition's after k turns.
 use Prim.Native.Nat.{_-_, _≤_}
-use mathlib.Core.Path.{_≡_, refl}
+use mathlib.Core.Path.{_≡_}
 use mathlib.Core.Logic.{⊎-elim}
 use native.Mathlib.Omega.{arith}
 use borrow.Author.Needs.{needs}

@@ -1,7 +1,5 @@
 -- `incremental::index_fits` meets its contract, on either side of its test.
 use mathlib.Core.Path.{sym, _∙_}
-use native.Mathlib.Omega.{arith}
-use borrow.Author.Needs.{needs}
 use borrow.Author.Tests.{not-true, not-false}
 use Rattle.incremental_rules.specs.Rules.{indexFits}
 use Rattle.incremental.proofs.index_fits.Statement.{statement}

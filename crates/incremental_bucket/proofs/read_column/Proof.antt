@@ -1,7 +1,6 @@
 -- `incremental_bucket::read_column` meets its contract: a law for each way out.
 use mathlib.Core.Path.{refl, ap, _∙_}
 use native.Mathlib.Omega.{arith}
-use borrow.Author.Needs.{needs}
 use Rattle.bytes_at.proofs.Stepped.{free}
 use Rattle.aipsio.specs.declared.Value.{Value}
 use Rattle.incremental_bucket.proofs.Heads.{column-kept, column-short, column-none, column-on}

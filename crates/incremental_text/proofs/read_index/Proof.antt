@@ -1,7 +1,5 @@
 -- `incremental_text::read_index` meets its contract: its calls compose as the definition says, and both lists lie in the file.
-use native.Mathlib.Omega.{arith}
 use borrow.Author.Needs.{needs}
-use denote.Ref.{now}
 use Rattle.bytes_at.proofs.Stepped.{via, free}
 use Rattle.incremental_text.specs.Index.{indexIn}
 use Rattle.incremental_text.proofs.IndexLaws.{index-answered}
