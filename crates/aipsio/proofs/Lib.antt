@@ -4,3 +4,4 @@ pub mod Sides
 pub mod Ways
 pub mod Accepted
 pub mod Bounds
+pub mod Ends

@@ -1,7 +1,7 @@
 -- Document 01, "AipsIO", and Note 260, sections 2 to 2.4: objects.
 use Prim.Native.Nat.{ℕ, _+_, _*_}
 use mathlib.Core.List.{List}
-use mathlib.Core.Bool.{Bool, cond}
+use mathlib.Core.Bool.{cond}
 use lib.Dec.{leb, eqb}
 use Rattle.bytes_at.specs.declared.Width.{Width}
 use Rattle.bytes_at.specs.declared.Width.the-variants.{Four, Eight}

@@ -1,11 +1,10 @@
 -- Names: the starts and lengths of the columns' names, kept beside the columns, find the same name. Assumes nothing.
-use mathlib.Core.Path.{_≡_, refl, sym, ap, _∙_}
+use mathlib.Core.Path.{_≡_, refl, ap}
 use mathlib.Core.List.{List, [], _∷_, map}
-use mathlib.Core.Bool.{Bool, cond}
+use mathlib.Core.Bool.{Bool}
 use Prim.Native.Nat.{ℕ, zero, suc}
-use lib.ListN.{getD, set, take, drop, List·getD-map}
-use Rattle.bytes_at.specs.Bytes.{sameBytes}
-use Rattle.bytes_at.specs.First.{firstFrom, firstBelow}
+use lib.ListN.{getD, set, List·getD-map}
+use Rattle.bytes_at.specs.First.{firstFrom}
 use Rattle.column_desc.specs.declared.Column.{Column}
 use Rattle.column_desc.specs.ColumnDesc.{blank, isNamed, firstNamed, firstPart}
 

@@ -3,19 +3,18 @@ use mathlib.Core.Path.{_≡_, sym, _∙_}
 use mathlib.Core.Bool.{Bool, true, false}
 use mathlib.Core.List.{List}
 use Prim.Native.Nat.{ℕ, _+_, _*_, _≤_, _<_}
-use native.Mathlib.Decide.{ℕ-discrete}
 use native.Mathlib.Omega.{arith}
-use borrow.Author.Tests.{eq-eqb, ne-eqb}
+use borrow.Author.Tests.{ne-eqb}
 use lib.Dec.{leb→le}
 use lib.ListN.{length}
 use Rattle.bytes_at.specs.Stages.{_▷_, orNo}
-use Rattle.bytes_at.proofs.Stages.{then-left, then-right, or-passed}
+use Rattle.bytes_at.proofs.Stages.{then-left, then-right, or-passed, stops, goes, regroup, no-is, yes-is}
 use Rattle.buckets.specs.Chain.{Area, startOf, freeOk}
 use Rattle.buckets.proofs.Passed.{passed}
 use Rattle.cell_map.proofs.Places.{step}
 use Rattle.row_index.specs.Numbers.{numberIn}
 use Rattle.table.specs.declared.Description.{Description}
-use Rattle.standard_text.specs.Header.{longEnough}
+use Rattle.manager_file.specs.Start.{longEnough}
 use Rattle.incremental_text.specs.declared.Header.{Header}
 use Rattle.incremental_text.specs.declared.Index.{Index}
 use Rattle.incremental_text.specs.Header.{headerAt, HeaderBounds}
@@ -26,29 +25,6 @@ use Rattle.incremental_rules.specs.Rules.{indexFits, cellsOf, searchOf, indexOf
 use Rattle.incremental_rules.proofs.AnyCell.{cells-same, search-same}
 use Rattle.incremental_rules.proofs.Rows.{number-below}
 use Rattle.incremental.specs.Incremental.{beforeIndex, refusedFile}
-
--- ---- stages
-stays : (a b : ℕ) → (a ≡ 0 → ⊥) → a ▷ b ≡ a
-unfolding _▷_
-stays a b n = rw (ne-eqb a 0 n)
-
-goes : (a b : ℕ) → a ≡ 0 → a ▷ b ≡ b
-unfolding _▷_
-goes a b e = rw (eq-eqb a 0 e)
-
-regroup : (a b c : ℕ) → (a ▷ b) ▷ c ≡ a ▷ (b ▷ c)
-regroup a b c = elim (ℕ-discrete a 0) [
-  | yes e ↦ rw (goes a b e, goes a (b ▷ c) e)
-  | no n ↦ rw (stays a b n, stays a (b ▷ c) n) (stays a c n)
-]
-
-no-is : (t : Bool) (n : ℕ) → t ≡ false → orNo t n ≡ n
-unfolding orNo
-no-is t n e = rw e
-
-yes-is : (t : Bool) (n : ℕ) → t ≡ true → orNo t n ≡ 0
-unfolding orNo
-yes-is t n e = rw e
 
 -- ---- what the first stages show
 pub area-passed : (refused : ℕ) (h : Header) (f : List ℕ) → HeaderBounds h → beforeIndex refused h (length f) ≡ 0 → Area f (h .size) (h .count)
@@ -91,25 +67,25 @@ module _ (d : Description) (sequence : ℕ) (f : List ℕ) (refused position row
   out n q z p = p ∙ sym (rw (q, ne-eqb n 0 z))
 
   pub out-first : (n : ℕ) {r : Checked} → n ≡ beforeIndex refused h (length f) → (n ≡ 0 → ⊥) → r ≡ refusedFile n → Says r
-  out-first n q z p = out n (staged ∙ rw (← q) (stays n _ z)) z p
+  out-first n q z p = out n (staged ∙ rw (← q) (stops n _ z)) z p
 
   module _ {n : ℕ} (q : n ≡ beforeIndex refused h (length f)) (z : n ≡ 0) {x : Index} (y : x ≡ indexOf f h) where
     after-first : refusalOf d sequence f refused ≡ x .refused ▷ (orNo freed 10 ▷ (orNo (right x) 11 ▷ searched x))
     after-first = staged ∙ goes _ _ (sym q ∙ z) ∙ rw y
 
     pub out-index : {r : Checked} → (x .refused ≡ 0 → ⊥) → r ≡ refusedFile (x .refused) → Says r
-    out-index w p = out (x .refused) (after-first ∙ stays (x .refused) _ w) w p
+    out-index w p = out (x .refused) (after-first ∙ stops (x .refused) _ w) w p
 
     module _ (w : x .refused ≡ 0) where
       pub out-free : {g : Bool} {r : Checked} → g ≡ freed → g ≡ false → r ≡ refusedFile 10 → Says r
-      out-free c k p = out 10 (after-first ∙ goes _ _ w ∙ rw (no-is freed 10 (sym c ∙ k)) (stays 10 _ (omega arith))) (omega arith) p
+      out-free c k p = out 10 (after-first ∙ goes _ _ w ∙ rw (no-is freed 10 (sym c ∙ k)) (stops 10 _ (omega arith))) (omega arith) p
 
       module _ {g : Bool} (c : g ≡ freed) (k : g ≡ true) where
         after-free : refusalOf d sequence f refused ≡ orNo (right x) 11 ▷ searched x
         after-free = after-first ∙ goes _ _ w ∙ goes _ _ (yes-is freed 10 (sym c ∙ k))
 
         pub out-map : {m : Bool} {r : Checked} → m ≡ right x → m ≡ false → r ≡ refusedFile 11 → Says r
-        out-map v j p = out 11 (after-free ∙ rw (no-is (right x) 11 (sym v ∙ j)) (stays 11 _ (omega arith))) (omega arith) p
+        out-map v j p = out 11 (after-free ∙ rw (no-is (right x) 11 (sym v ∙ j)) (stops 11 _ (omega arith))) (omega arith) p
 
         module _ {m : Bool} (v : m ≡ right x) (j : m ≡ true) {cells : Cells} (u : cells ≡ cellsOf d sequence position)
             {found : Found} (s : found ≡ searchOf (d .big) f (h .size) x cells row) where

@@ -1,7 +1,7 @@
 -- What the check of an IncrementalStMan file gives.
 use Prim.Native.Nat.{ℕ}
 use Rattle.bytes_at.specs.Stages.{_▷_, orNo}
-use Rattle.standard_text.specs.Header.{longEnough}
+use Rattle.manager_file.specs.Start.{longEnough}
 use Rattle.incremental_text.specs.declared.Header.{Header}
 use Rattle.incremental_rules.specs.declared.Checked.{Checked}
 

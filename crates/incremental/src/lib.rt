@@ -192,7 +192,7 @@ fn before_index(refused: usize, h: Header, len: usize) -> usize
     if own != 0 {
         return own;
     }
-    if !standard_text::long_enough(len, h.size, h.count) {
+    if !manager_file::long_enough(len, h.size, h.count) {
         return 1;
     }
     0

@@ -16,7 +16,7 @@ use Rattle.buckets.specs.Chain.{startOf, links, freeOk}
 use Rattle.cell_map.specs.Fits.{ceil8}
 use Rattle.row_index.specs.Numbers.{numberIn, numbersAt}
 use Rattle.marks.specs.Different.{allApart}
-use Rattle.standard_text.specs.Header.{longEnough}
+use Rattle.manager_file.specs.Start.{longEnough}
 use Rattle.incremental_text.specs.declared.Header.{Header}
 use Rattle.incremental_text.specs.declared.Index.{Index}
 use Rattle.incremental_text.specs.Header.{headerAt}

@@ -14,7 +14,7 @@ use Rattle.aipsio.specs.Field.{uintAt, markAt}
 use Rattle.aipsio.specs.Object.{opened, closed, blockAt}
 use Rattle.aipsio.proofs.Kept.{Clean, clean-before, closed-keeps}
 use Rattle.aipsio.proofs.Accepted.{block-inside}
-use Rattle.standard_text.proofs.Ends.{Stays, _then_, uint-stays, mark-stays, opened-stays, block-stays}
+use Rattle.aipsio.proofs.Ends.{Stays, _then_, uint-stays, mark-stays, opened-stays, block-stays}
 use Rattle.incremental_text.specs.declared.Index.{Index}
 use Rattle.incremental_text.specs.Index.{indexed, indexIn, IndexInside}
 

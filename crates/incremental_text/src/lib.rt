@@ -3,7 +3,6 @@
 ghost use mathlib.Core.Path.{_≡_};
 ghost use Prim.Native.Nat.{_<_};
 ghost use lib.ListN.{length};
-ghost use Rattle.standard_text.specs.Header.{headerRoom, sameEndian};
 ghost use Rattle.incremental_text.specs.Header.{fieldsAt, headed, headerAt, HeaderBounds, HeaderWords};
 ghost use Rattle.incremental_text.specs.Index.{indexed, indexAt, IndexInside};
 use aipsio::Cursor;
@@ -36,26 +35,6 @@ pub struct Index {
     pub refused: usize,
 }
 
-// Where the header's container ends: at 512, or with the file.
-fn header_room(len: usize) -> usize
-    ensures { λ r. ⌜ r ≡ headerRoom len ⌝ }
-{
-    if len <= 512 {
-        return len;
-    }
-    512
-}
-
-// Whether the header's Bool is the table's endianness.
-fn same_endian(flag: usize, big: bool) -> bool
-    ensures { λ r. ⌜ r ≡ sameEndian flag big ⌝ }
-{
-    if big {
-        return flag == 1;
-    }
-    flag == 0
-}
-
 // From the object's header to the first free bucket.
 fn read_fields(s: &[u8], c: Cursor, big: bool) -> HeaderFields
     ensures { λ r. ⌜ r ≡ fieldsAt (now (s .entry)) c big ⌝ }
@@ -63,7 +42,7 @@ fn read_fields(s: &[u8], c: Cursor, big: bool) -> HeaderFields
 {
     let o = aipsio::open_text(s, c, 16, b"Incremen", b"talStMan", 5, 5);
     let flag = aipsio::flag(s, o.next);
-    let same = same_endian(flag.value, big);
+    let same = manager_file::same_endian(flag.value, big);
     let d = aipsio::judge(flag.next, o.next.at, same, 6);
     let size = aipsio::number(s, d, Width::Four, 16, 1048576);
     let count = aipsio::number(s, size.next, Width::Four, 0, 4096);
@@ -110,7 +89,7 @@ pub fn read_header(f: &[u8], big: bool) -> Header
     ensures bounded { λ r. ⌜ HeaderBounds r ⌝ }
     ensures words { λ r. ⌜ HeaderWords r ⌝ }
 {
-    let room = header_room(f.len());
+    let room = manager_file::header_room(f.len());
     let start = Cursor {
         at: 0,
         end: room,

@@ -2,12 +2,12 @@
 -- is the map's.
 -- Assumes nothing.
 use mathlib.Core.Path.{_≡_, refl, sym, ap, _∙_}
-use mathlib.Core.List.{List, _++_}
-use mathlib.Core.Bool.{Bool, true, false, cond, _&&_}
+use mathlib.Core.List.{List}
+use mathlib.Core.Bool.{Bool, true, false, cond}
 use Prim.Native.Nat.{ℕ, _-_, _≤_, _<_}
 use native.Mathlib.Decide.{ℕ-discrete}
 use native.Mathlib.Omega.{arith}
-use lib.Dec.{T, eqb}
+use lib.Dec.{T}
 use lib.ListN.{length, getD, replicate, length-append}
 use borrow.Author.Tests.{eq-eqb, ne-eqb}
 use Rattle.bytes_at.specs.Steps.{_>>=_}
@@ -24,7 +24,7 @@ use Rattle.row_index.specs.Numbers.{numbersAt}
 use Rattle.standard_text.specs.declared.Set.{Set}
 use Rattle.standard_text.specs.Header.{headerAt}
 use Rattle.standard_text.specs.Index.{noSet, indexAt, SetInside}
-use Rattle.standard_rules.specs.Rules.{textOf, setOf, columnOf, mapOf, refusalOf, checkedAs}
+use Rattle.standard_rules.specs.Rules.{textOf, setOf, columnOf, mapOf, refusalOf}
 use Rattle.incremental_rules.specs.Rules.{checkedAs as incrementalAs}
 use Rattle.incremental_rules.specs.Places.{placeOf as incrementalPlace}
 use Rattle.incremental_rules.proofs.Places.{checked-there}
@@ -36,7 +36,7 @@ use Rattle.lookup_rules.specs.declared.Question.{Question}
 use Rattle.lookup_rules.specs.declared.FileChecked.{FileChecked}
 use Rattle.lookup_rules.specs.declared.Staged.{Staged}
 use Rattle.lookup_rules.specs.declared.Answer.{Answer}
-use Rattle.lookup_rules.specs.Questions.{rowOf, positionOf, asksCell, bindingAt, targetOf, fileOf, planFor, stagesOf, placeIn, bitsFor, noPlan, answered, answerOf}
+use Rattle.lookup_rules.specs.Questions.{rowOf, positionOf, asksCell, bindingAt, targetOf, fileOf, planFor, stagesOf, placeIn, noPlan, answered, answerOf}
 use Rattle.lookup_rules.proofs.CellAsked.{cell-sequence, cell-column, cell-row, bits-for}
 use Rattle.lookup_rules.proofs.Columns.{column-kept, column-same}
 use Rattle.lookup_rules.proofs.Described.{described}

@@ -24,11 +24,8 @@ use Rattle.incremental_rules.specs.Rules.{checkedAs as incrementalAs}
 use Rattle.lookup_rules.specs.declared.Question.{Question}
 use Rattle.lookup_rules.specs.declared.Target.{Target}
 use Rattle.lookup_rules.specs.declared.Staged.{Staged}
-use Rattle.lookup_rules.specs.declared.Verdict.{Verdict}
 use Rattle.lookup_rules.specs.declared.Verdict.the-variants.{Accepted, Refused as NotAccepted}
-use Rattle.lookup_rules.specs.declared.Planned.{Planned}
 use Rattle.lookup_rules.specs.declared.Planned.the-variants.{Ready, Refused as NotPlanned}
-use Rattle.lookup_rules.specs.declared.Placed.{Placed}
 use Rattle.lookup_rules.specs.declared.Placed.the-variants.{At, Refused as NotPlaced}
 use Rattle.lookup_rules.specs.declared.Answer.{Answer}
 use Rattle.lookup_rules.specs.Questions.{fileOf, stagesOf, roomAfter, verdictOf, planOf, placedOf}

@@ -1,17 +1,15 @@
 -- What a file that is accepted shows of its sets.
 -- Assumes nothing.
-use mathlib.Core.Path.{_≡_, refl, sym, ap, _∙_}
+use mathlib.Core.Path.{_≡_}
 use mathlib.Core.List.{List}
 use Prim.Native.Nat.{ℕ, _≤_, _<_}
-use native.Mathlib.Omega.{arith}
 use lib.Dec.{T}
 use lib.ListN.{length, getD}
 use borrow.Author.Tests.{eq-eqb}
-use Rattle.bytes_at.specs.Stages.{_▷_, orNo}
 use Rattle.bytes_at.specs.declared.Width.the-variants.{Four}
 use Rattle.bytes_at.proofs.Stages.{then-left, then-right, or-passed}
 use Rattle.table.specs.declared.Description.{Description}
-use Rattle.cell_map.specs.Map.{columnAt, setAt, setOf as mapSetOf, noSet as noMapSet}
+use Rattle.cell_map.specs.Map.{columnAt, setAt, noSet as noMapSet}
 use Rattle.cell_map.specs.Fits.{fits, covers}
 use Rattle.cell_map.specs.Demand.{Kept}
 use Rattle.cell_map.proofs.Checked.{accepted, set-covers}

@@ -13,7 +13,6 @@ use Rattle.standard_rules.specs.Rules.{refusalOf, checkedAs}
 use Rattle.incremental_rules.specs.Rules.{refusalOf as incrementalRefusal, checkedAs as incrementalAs}
 use Rattle.lookup_rules.specs.declared.Target.{Target}
 use Rattle.lookup_rules.specs.declared.FileChecked.{FileChecked}
-use Rattle.lookup_rules.specs.declared.Plan.{Plan}
 use Rattle.lookup_rules.specs.Questions.{ofStandard, ofIncremental, fileOf, planFor}
 
 check-passed : (d : Description) (sequence : ℕ) (f : List ℕ) (refused l : ℕ) → checkedAs d sequence f refused l .refused ≡ refusalOf d sequence f refused l

@@ -7,6 +7,7 @@ use Prim.Native.Nat.{ℕ}
 use lib.Dec.{ltb, eqb}
 use Rattle.bytes_at.specs.Steps.{_>>=_}
 use Rattle.bytes_at.specs.Stages.{_▷_, orNo}
+use Rattle.bytes_at.proofs.Stages.{regroup}
 use Rattle.table.specs.Table.{describedAs}
 use Rattle.lookup_rules.specs.declared.FileChecked.{FileChecked}
 use Rattle.lookup_rules.specs.declared.Target.{Target}
@@ -19,7 +20,7 @@ use Rattle.lookup_rules.proofs.Files.{standard-refused, incremental-ref
 use Rattle.lookup_rules.proofs.Stages.{answer-refused, answered-is}
 use Rattle.lookup_rules.proofs.Low.{described-low}
 use Rattle.lookup_rules.proofs.Plans.{fresh-same, stale-differs, differs-stale}
-use Rattle.lookup_rules.proofs.Refusals.{Not12, passes, three, later-not, target-not, check-not, incremental-not, stale-twelve, unmade-stays, twelve-stale}
+use Rattle.lookup_rules.proofs.Refusals.{Not12, passes, later-not, target-not, check-not, incremental-not, stale-twelve, unmade-stays, twelve-stale}
 
 -- the manager of a column, and the check of its file, where a row is asked for
 abbrev targetNow : List ℕ → ℕ → Target
@@ -77,8 +78,8 @@ module _ (t f : List ℕ) (row : ℕ) (p : Plan) (l : ℕ) where
   planned-row : (w : Wanted) → stagesOf t f (byPlan w row p) l .refused
       ≡ (checkedNow t f (p .position) row l .refused ▷ orNo (samePlan p (planAt t f (p .position) row l)) 12) ▷ laterAt w (planAt t f (p .position) row l)
   unfolding stagesOf targetOf _>>=_
-  planned-row place = three _ _ _
-  planned-row view = three _ _ _
+  planned-row place = regroup _ _ _
+  planned-row view = regroup _ _ _
 
   same-refusal : checkedNow t f (p .position) row l .refused ≡ checkedNow t f (p .position) 0 l .refused
   same-refusal = row-refused (describedAs t) (targetNow t (p .position)) f l row 0

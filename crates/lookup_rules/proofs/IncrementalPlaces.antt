@@ -2,27 +2,23 @@
 -- Assumes nothing.
 use mathlib.Core.Path.{_≡_, refl, sym, ap, _∙_}
 use mathlib.Core.List.{List}
-use mathlib.Core.Bool.{Bool, true, false, not}
-use Prim.Native.Nat.{ℕ, _<_}
-use lib.Dec.{T, eqb}
+use mathlib.Core.Bool.{true}
+use Prim.Native.Nat.{ℕ}
+use lib.Dec.{T}
 use borrow.Author.Tests.{eq-eqb}
-use Rattle.column_desc.specs.ColumnDesc.{blank}
 use Rattle.column_set.specs.declared.Kind.{Kind}
 use Rattle.column_set.specs.declared.Kind.the-variants.{Incremental}
 use Rattle.table.specs.declared.Description.{Description}
 use Rattle.table.specs.Table.{describedAs}
-use Rattle.cell_map.specs.Map.{Bits}
 use Rattle.cell_map.proofs.Tests.{is-true}
-use lib.ListN.{getD}
 use Rattle.incremental_rules.specs.Rules.{refusalOf}
 use Rattle.incremental_rules.specs.Places.{placeOf, Kept}
 use Rattle.incremental_rules.proofs.Places.{every-place}
 use Rattle.lookup_rules.specs.declared.Question.{Question}
 use Rattle.lookup_rules.specs.declared.Question.the-variants.{Check, Prepare, Place, PlacePlanned, View, ViewPlanned}
-use Rattle.lookup_rules.specs.Questions.{rowOf, positionOf, asksCell, kindWith, isIncremental, isPlaced, isHeld, bindingAt, placeIn, answerOf}
-use Rattle.lookup_rules.specs.declared.Asked.{Asked}
+use Rattle.lookup_rules.specs.Questions.{rowOf, positionOf, asksCell, kindWith, isIncremental, isPlaced, bindingAt, placeIn, answerOf}
 use Rattle.lookup_rules.specs.declared.Asked.the-variants.{Position, Planned}
-use Rattle.lookup_rules.specs.Demand.{question, columnOf, bitsOf, carries, inIncremental, SafeThere, PlacesThere}
+use Rattle.lookup_rules.specs.Demand.{bitsOf, inIncremental, SafeThere, PlacesThere}
 use Rattle.lookup_rules.proofs.CellAsked.{cell-sequence, cell-column, cell-row, bits-for}
 use Rattle.lookup_rules.proofs.Described.{described}
 use Rattle.lookup_rules.proofs.Files.{incremental-refused}

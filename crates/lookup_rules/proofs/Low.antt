@@ -31,7 +31,8 @@ use Rattle.table.specs.Table.{wholeOf, headAt as tableHeadAt, descHeadAt, refus
 use Rattle.standard_text.specs.declared.BucketFields.{BucketFields}
 use Rattle.standard_text.specs.declared.IndexFields.{IndexFields}
 use Rattle.standard_text.specs.declared.Sets.{Sets}
-use Rattle.standard_text.specs.Header.{headerRoom, bucketFieldsAt, indexFieldsAt, headed, headerIn, headerAt}
+use Rattle.manager_file.specs.Start.{headerRoom}
+use Rattle.standard_text.specs.Header.{bucketFieldsAt, indexFieldsAt, headed, headerIn, headerAt}
 use Rattle.standard_text.specs.Index.{setAt, setInto, setsAt, indexed, indexIn, indexAt}
 use Rattle.incremental_text.specs.declared.HeaderFields.{HeaderFields}
 use Rattle.incremental_text.specs.declared.Index.{Index}

@@ -7,10 +7,9 @@ use Prim.Native.Nat.{ℕ, _<_}
 use lib.Dec.{T}
 use Rattle.bytes_at.proofs.Stages.{then-left, then-right, or-passed}
 use Rattle.column_set.specs.declared.Kind.{Kind}
-use Rattle.column_set.specs.declared.Kind.the-variants.{Standard}
 use Rattle.table.specs.declared.Description.{Description}
 use Rattle.table.specs.Table.{describedAs}
-use Rattle.cell_map.specs.Map.{Map, Bits, placeOf}
+use Rattle.cell_map.specs.Map.{Bits, placeOf}
 use Rattle.cell_map.specs.Fits.{fits}
 use Rattle.cell_map.specs.Demand.{Kept}
 use Rattle.cell_map.proofs.Places.{every-two}
@@ -18,7 +17,6 @@ use Rattle.cell_map.proofs.Tests.{is-true}
 use Rattle.standard_rules.specs.Rules.{mapOf, refusalOf}
 use Rattle.lookup_rules.specs.declared.Question.{Question}
 use Rattle.lookup_rules.specs.declared.Question.the-variants.{Place, PlacePlanned}
-use Rattle.lookup_rules.specs.declared.Answer.{Answer}
 use Rattle.lookup_rules.specs.Questions.{rowOf, positionOf, asksCell, kindWith, isIncremental, bindingAt, placeIn, answerOf}
 use Rattle.lookup_rules.specs.declared.Asked.{Asked}
 use Rattle.lookup_rules.specs.declared.Asked.the-variants.{Position, Planned}

@@ -6,24 +6,15 @@ use mathlib.Core.Bool.{Bool, true, false}
 use Prim.Native.Nat.{ℕ, _≤_}
 use native.Mathlib.Decide.{ℕ-discrete}
 use native.Mathlib.Omega.{arith}
-use borrow.Author.Tests.{eq-eqb, ne-eqb}
 use Rattle.bytes_at.specs.Steps.{_>>=_}
 use Rattle.bytes_at.specs.Stages.{_▷_, orNo}
+use Rattle.bytes_at.proofs.Stages.{stops, goes}
 use Rattle.table.specs.declared.Description.{Description}
 use Rattle.standard_rules.specs.Rules.{refusalOf}
 use Rattle.incremental_rules.specs.Rules.{searchOf, refusalOf as incrementalRefusal}
 use Rattle.lookup_rules.specs.declared.Question.{Question}
 use Rattle.lookup_rules.specs.Questions.{targetOf}
 use Rattle.lookup_rules.proofs.Low.{header-low, index-low, incremental-header-low, incremental-index-low, search-low}
-
--- ---- two stages
-pub stops : (a b : ℕ) → (a ≡ 0 → ⊥) → a ▷ b ≡ a
-unfolding _▷_
-stops a b h = rw (ne-eqb a 0 h)
-
-pub goes : (a b : ℕ) → a ≡ 0 → a ▷ b ≡ b
-unfolding _▷_
-goes a b h = rw (eq-eqb a 0 h)
 
 -- a test that passes
 pub passes : (a n : ℕ) → a ▷ orNo true n ≡ a
@@ -72,9 +63,6 @@ incremental-not d sequence f refused h =
     (stage-not _ _ (test-not _ 11 (omega arith)) (low-not _ (search-low _ f _ _ _ _ _)))))))
 
 -- ---- the file check's number a, then the plan's stage, then the later ones
-pub three : (a b c : ℕ) → (a ▷ b) ▷ c ≡ a ▷ (b ▷ c)
-three a b c = elim (ℕ-discrete a 0) [ yes e ↦ rw (goes a b e) (sym (goes a (b ▷ c) e)) | no n ↦ rw (stops a b n, stops a c n) (sym (stops a (b ▷ c) n)) ]
-
 -- the row's stage and the view's
 pub later-not : (below seen : Bool) → Not12 (orNo below 9 ▷ orNo seen 14)
 later-not below seen = stage-not _ _ (test-not below 9 (omega arith)) (test-not seen 14 (omega arith))

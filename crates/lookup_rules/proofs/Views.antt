@@ -2,11 +2,11 @@
 -- Assumes nothing.
 use mathlib.Core.Path.{_≡_, refl, sym, ap, _∙_}
 use mathlib.Core.List.{List}
-use mathlib.Core.Bool.{Bool, true, false, not, _||_}
-use Prim.Native.Nat.{ℕ, _+_, _-_, _*_, _/_, _≤_, _<_}
+use mathlib.Core.Bool.{false}
+use Prim.Native.Nat.{ℕ, _+_, _-_, _*_, _≤_, _<_}
 use native.Mathlib.Nat.{mul-le-mul}
 use native.Mathlib.Omega.{arith}
-use lib.Dec.{T, eqb, leb, leb→le}
+use lib.Dec.{T, leb, leb→le}
 use lib.ListN.{length, getD}
 use borrow.Author.Tests.{eq-eqb}
 use Rattle.bytes_at.specs.Steps.{_>>=_}
@@ -16,24 +16,23 @@ use Rattle.column_set.specs.declared.Kind.{Kind}
 use Rattle.column_set.specs.declared.Kind.the-variants.{Other, Standard, Incremental}
 use Rattle.table.specs.declared.Description.{Description}
 use Rattle.table.specs.Table.{describedAs}
-use Rattle.cell_map.specs.Map.{Map, Bits, Column as MapColumn, columnAt, placeOf, bucketIn, bucketStart, localRow}
+use Rattle.cell_map.specs.Map.{Map, Bits, columnAt, placeOf, bucketIn, bucketStart, localRow}
 use Rattle.cell_map.proofs.Places.{every-two}
-use Rattle.standard_text.specs.Header.{headerAt, longEnough}
-use Rattle.standard_rules.specs.Rules.{columnOf, mapOf, refusalOf}
+use Rattle.manager_file.specs.Start.{longEnough}
+use Rattle.standard_text.specs.Header.{headerAt}
+use Rattle.standard_rules.specs.Rules.{mapOf, refusalOf}
 use Rattle.incremental_text.specs.Header.{headerAt as incrementalHeader}
 use Rattle.incremental_rules.specs.Rules.{refusalOf as incrementalRefusal}
 use Rattle.incremental_rules.specs.Places.{placeOf as incrementalPlace, bitOf}
-use Rattle.incremental_rules.specs.Rules.{indexOf}
 use Rattle.lookup_rules.specs.declared.Plan.{Plan}
 use Rattle.lookup_rules.specs.declared.Question.{Question}
-use Rattle.lookup_rules.specs.declared.Question.the-variants.{View, ViewPlanned}
 use Rattle.lookup_rules.specs.declared.Asked.{Asked}
 use Rattle.lookup_rules.specs.declared.Asked.the-variants.{Position, Planned}
 use Rattle.lookup_rules.specs.declared.Answer.{Answer}
-use Rattle.lookup_rules.specs.Questions.{rowOf, positionOf, asksCell, kindWith, isHeld, isSeen, bindingAt, targetOf, planFor, stagesOf, answerOf}
+use Rattle.lookup_rules.specs.Questions.{rowOf, positionOf, asksCell, kindWith, isSeen, bindingAt, planFor, stagesOf, answerOf}
 use Rattle.lookup_rules.specs.Demand.{bitsOf}
 use Rattle.lookup_rules.specs.Views.{viewed, HoldsCell, EveryView}
-use Rattle.lookup_rules.proofs.CellAsked.{cell-sequence, cell-column, cell-row}
+use Rattle.lookup_rules.proofs.CellAsked.{cell-sequence, cell-column}
 use Rattle.lookup_rules.proofs.WholeBytes.{Even8, eight, times-even}
 use Rattle.lookup_rules.proofs.Described.{described}
 use Rattle.lookup_rules.proofs.Columns.{column-same}

@@ -3,13 +3,11 @@
 use mathlib.Core.Path.{_≡_, refl, sym, ap, _∙_}
 use mathlib.Core.List.{List, [], _∷_}
 use mathlib.Core.Bool.{Bool, true, false, cond}
-use Prim.Native.Nat.{ℕ, zero, suc, _+_, _*_, _/_, _%_}
-use native.Mathlib.Decide.{ℕ-discrete}
+use Prim.Native.Nat.{ℕ, zero, suc, _*_, _/_, _%_}
 use native.Mathlib.Omega.{arith}
 use native.Mathlib.Nat.{mul-assoc, mul-comm}
 use lib.ListN.{getD, set, take, drop, replicate}
 use lib.Dec.{eqb, ltb}
-use borrow.Author.Tests.{eq-eqb, ne-eqb}
 use Rattle.bytes_at.specs.Bytes.{bytes, sameBytes}
 use Rattle.bytes_at.specs.First.{firstBelow}
 use Rattle.bytes_at.specs.Loop.{after}
@@ -17,7 +15,6 @@ use Rattle.bytes_at.specs.Steps.{_>>=_}
 use Rattle.aipsio.specs.declared.Cursor.{Cursor}
 use Rattle.aipsio.specs.Field.{judged}
 use Rattle.data_type.specs.declared.DataType.{DataType}
-use Rattle.data_type.specs.declared.Known.{Known}
 use Rattle.data_type.specs.declared.Known.the-variants.{Of as Is, Nothing}
 use Rattle.data_type.specs.declared.ColumnType.{ColumnType}
 use Rattle.data_type.specs.DataTypes.{typeAt, nameOf, isName, typed, knownAt, withName, columnTypeOf, cellBits}

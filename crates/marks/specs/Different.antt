@@ -1,8 +1,8 @@
 -- Document 01, "StandardStMan": "Data buckets of all sets, index buckets and free buckets are in range and all different";
 -- "IncrementalStMan": "bucket numbers are in range, all different, none free".
 use mathlib.Core.Bool.{Bool, true, _&&_}
-use mathlib.Core.List.{List, [], _∷_, _++_}
-use Prim.Native.Nat.{ℕ, zero, suc, _+_}
+use mathlib.Core.List.{List, [], _∷_}
+use Prim.Native.Nat.{ℕ}
 use lib.ListN.{getD, set}
 use lib.Dec.{ltb, eqb}
 use Rattle.cell_map.specs.Fits.{below, unlike}

@@ -1,51 +1,28 @@
 -- The ways out of the check. Assumes nothing.
-use mathlib.Core.Path.{_≡_, refl, sym, ap, _∙_}
+use mathlib.Core.Path.{_≡_, sym, ap, _∙_}
 use mathlib.Core.Bool.{Bool, true, false}
 use mathlib.Core.List.{List}
-use Prim.Native.Nat.{ℕ, suc, _≤_}
-use native.Mathlib.Decide.{ℕ-discrete}
+use Prim.Native.Nat.{ℕ, _≤_}
 use native.Mathlib.Omega.{arith}
-use borrow.Author.Tests.{eq-eqb, ne-eqb}
-use lib.Dec.{T, leb, leb→le}
+use borrow.Author.Tests.{ne-eqb}
+use lib.Dec.{leb, leb→le}
 use lib.ListN.{length, take, drop}
 use Rattle.bytes_at.specs.Stages.{_▷_, orNo}
-use Rattle.bytes_at.proofs.Stages.{then-left, then-right, or-passed}
+use Rattle.bytes_at.proofs.Stages.{then-left, then-right, or-passed, stops, goes, regroup, no-is, yes-is}
 use Rattle.buckets.specs.Chain.{Area, indexOk, indexText, freeOk, padded}
 use Rattle.buckets.proofs.Room.{index-long, padded-text}
 use Rattle.cell_map.specs.Map.{Column as MapColumn}
 use Rattle.cell_map.specs.Fits.{fits}
 use Rattle.table.specs.declared.Description.{Description}
 use Rattle.standard_text.specs.declared.Header.{Header}
-use Rattle.standard_text.specs.Header.{headerAt, longEnough, HeaderBounds}
+use Rattle.manager_file.specs.Start.{longEnough}
+use Rattle.standard_text.specs.Header.{headerAt, HeaderBounds}
 use Rattle.standard_text.specs.declared.Set.{Set}
 use Rattle.standard_text.specs.declared.Index.{Index}
 use Rattle.standard_text.specs.Index.{indexAt}
 use Rattle.standard_rules.specs.declared.Checked.{Checked}
 use Rattle.standard_rules.specs.Rules.{textOf, setsFrom, columnsFrom, mapWith, mapOf, refusalOf, checkedAs}
 use Rattle.standard.specs.Standard.{beforeIndex, refusedFile}
-
--- ---- stages
-stays : (a b : ℕ) → (a ≡ 0 → ⊥) → a ▷ b ≡ a
-unfolding _▷_
-stays a b n = rw (ne-eqb a 0 n)
-
-goes : (a b : ℕ) → a ≡ 0 → a ▷ b ≡ b
-unfolding _▷_
-goes a b e = rw (eq-eqb a 0 e)
-
-regroup : (a b c : ℕ) → (a ▷ b) ▷ c ≡ a ▷ (b ▷ c)
-regroup a b c = elim (ℕ-discrete a 0) [
-  | yes e ↦ rw (goes a b e, goes a (b ▷ c) e)
-  | no n ↦ rw (stays a b n, stays a (b ▷ c) n) (stays a c n)
-]
-
-no-is : (t : Bool) (n : ℕ) → t ≡ false → orNo t n ≡ n
-unfolding orNo
-no-is t n e = rw e
-
-yes-is : (t : Bool) (n : ℕ) → t ≡ true → orNo t n ≡ 0
-unfolding orNo
-yes-is t n e = rw e
 
 -- ---- what the first stages show
 pub head-passed : (refused : ℕ) (h : Header) (len room : ℕ) → beforeIndex refused h len room ≡ 0 → h .refused ≡ 0
@@ -113,7 +90,7 @@ module _ (d : Description) (sequence : ℕ) (f : List ℕ) (refused l : ℕ) (h 
 
   pub out-first : (n : ℕ) {r : Checked} {X : Type 0} → n ≡ beforeIndex refused h (length f) l → (n ≡ 0 → ⊥) → r ≡ refusedFile n
       → (r ≡ checkedAs d sequence f refused l) × (r .refused ≡ 0 → X)
-  out-first n q z p = out n (staged ∙ rw (← q) (stays n _ z)) z p
+  out-first n q z p = out n (staged ∙ rw (← q) (stops n _ z)) z p
 
   module _ {n : ℕ} (q : n ≡ beforeIndex refused h (length f) l) (z : n ≡ 0) where
     after-first : refusalOf d sequence f refused l ≡ orNo indexed 10 ▷ (indexAt (textOf f h) (h .sets) .refused ▷ (orNo freed 10 ▷ orNo mapped 11))
@@ -121,7 +98,7 @@ module _ (d : Description) (sequence : ℕ) (f : List ℕ) (refused l : ℕ) (h 
 
     pub out-index : {i : Bool} {r : Checked} {X : Type 0} → i ≡ indexed → i ≡ false → r ≡ refusedFile 10
         → (r ≡ checkedAs d sequence f refused l) × (r .refused ≡ 0 → X)
-    out-index a b p = out 10 (after-first ∙ rw (no-is indexed 10 (sym a ∙ b)) (stays 10 _ (omega arith))) (omega arith) p
+    out-index a b p = out 10 (after-first ∙ rw (no-is indexed 10 (sym a ∙ b)) (stops 10 _ (omega arith))) (omega arith) p
 
     module _ {i : Bool} (a : i ≡ indexed) (b : i ≡ true) {x : Index} (y : x ≡ indexAt (textOf f h) (h .sets)) where
       after-index : refusalOf d sequence f refused l ≡ x .refused ▷ (orNo freed 10 ▷ orNo mapped 11)
@@ -129,12 +106,12 @@ module _ (d : Description) (sequence : ℕ) (f : List ℕ) (refused l : ℕ) (h 
 
       pub out-text : {r : Checked} {X : Type 0} → (x .refused ≡ 0 → ⊥) → r ≡ refusedFile (x .refused)
           → (r ≡ checkedAs d sequence f refused l) × (r .refused ≡ 0 → X)
-      out-text w p = out (x .refused) (after-index ∙ stays (x .refused) _ w) w p
+      out-text w p = out (x .refused) (after-index ∙ stops (x .refused) _ w) w p
 
       module _ (w : x .refused ≡ 0) where
         pub out-free : {g : Bool} {r : Checked} {X : Type 0} → g ≡ freed → g ≡ false → r ≡ refusedFile 10
             → (r ≡ checkedAs d sequence f refused l) × (r .refused ≡ 0 → X)
-        out-free c k p = out 10 (after-index ∙ goes _ _ w ∙ rw (no-is freed 10 (sym c ∙ k)) (stays 10 _ (omega arith))) (omega arith) p
+        out-free c k p = out 10 (after-index ∙ goes _ _ w ∙ rw (no-is freed 10 (sym c ∙ k)) (stops 10 _ (omega arith))) (omega arith) p
 
         module _ {g : Bool} (c : g ≡ freed) (k : g ≡ true) where
           -- the map as the code has it: over the header, the text and the sets that were read

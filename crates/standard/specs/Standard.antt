@@ -4,7 +4,7 @@ use lib.ListN.{replicate}
 use lib.Dec.{leb}
 use Rattle.bytes_at.specs.Stages.{_▷_, orNo}
 use Rattle.standard_text.specs.declared.Header.{Header}
-use Rattle.standard_text.specs.Header.{longEnough}
+use Rattle.manager_file.specs.Start.{longEnough}
 use Rattle.standard_text.specs.Index.{noSet}
 use Rattle.standard_rules.specs.declared.Checked.{Checked}
 

@@ -1,10 +1,10 @@
 -- What is read inside a text is read the same where more bytes follow it. Assumes nothing.
-use mathlib.Core.Path.{_≡_, refl, sym, ap, _∙_}
+use mathlib.Core.Path.{_≡_, refl, ap, _∙_}
 use mathlib.Core.Bool.{true}
 use mathlib.Core.List.{List, _++_}
 use Prim.Native.Nat.{ℕ, zero, suc, _+_, _-_, _*_, _≤_, _<_}
 use native.Mathlib.Omega.{arith}
-use lib.ListN.{length, getD, length-append, List·getD-append}
+use lib.ListN.{length, length-append, List·getD-append}
 use Rattle.bytes_at.specs.Number.{uintOf}
 use Rattle.bytes_at.proofs.Numbers.{big-number}
 use Rattle.row_index.specs.Numbers.{numberIn, numbersAt, firstRow}

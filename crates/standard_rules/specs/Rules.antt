@@ -1,7 +1,7 @@
 -- Document 01, "StandardStMan": what a file says, and when it is accepted.
 use Prim.Native.Nat.{ℕ, zero, suc}
 use mathlib.Core.List.{List, [], _∷_}
-use mathlib.Core.Bool.{Bool, true, cond}
+use mathlib.Core.Bool.{true, cond}
 use lib.ListN.{length, getD, replicate}
 use lib.Dec.{eqb, leb}
 use Rattle.bytes_at.specs.Stages.{_▷_, orNo}
@@ -16,7 +16,8 @@ use Rattle.cell_map.specs.Map.{Map, Set as MapSet, Column as MapColumn}
 use Rattle.cell_map.specs.Fits.{fits}
 use Rattle.standard_text.specs.declared.Header.{Header}
 use Rattle.standard_text.specs.declared.Set.{Set}
-use Rattle.standard_text.specs.Header.{headerAt, longEnough}
+use Rattle.manager_file.specs.Start.{longEnough}
+use Rattle.standard_text.specs.Header.{headerAt}
 use Rattle.standard_text.specs.Index.{indexAt, noSet}
 use Rattle.standard_rules.specs.declared.Checked.{Checked}
 

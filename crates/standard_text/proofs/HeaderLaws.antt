@@ -3,9 +3,8 @@
 use mathlib.Core.Path.{_≡_}
 use mathlib.Core.List.{List}
 use mathlib.Core.Bool.{Bool, true}
-use Prim.Native.Nat.{ℕ, _*_, _≤_, _<_, zero-le}
+use Prim.Native.Nat.{ℕ, _≤_, _<_, zero-le}
 use native.Mathlib.Decide.{ℕ-discrete}
-use native.Mathlib.Nat.{mul-le-mul}
 use native.Mathlib.Omega.{arith}
 use borrow.Author.Tests.{eq-eqb, ne-eqb, leb-true}
 use Rattle.bytes_at.specs.Steps.{_>>=_}
@@ -17,10 +16,6 @@ use Rattle.standard_text.specs.declared.BucketFields.{BucketFields}
 use Rattle.standard_text.specs.declared.IndexFields.{IndexFields}
 use Rattle.standard_text.specs.declared.Header.{Header}
 use Rattle.standard_text.specs.Header.{bucketFieldsAt, offsetFits, indexFieldsAt, headed, headerIn, HeaderBounds, HeaderWords}
-
--- the buckets of a file
-pub area-most : {size count : ℕ} → size ≤ 1048576 → count ≤ 4096 → count * size ≤ 4294967296
-area-most p q = mul-le-mul q p
 
 -- the fields on buckets
 pub record BucketBounds (b : BucketFields) : Type 0 where

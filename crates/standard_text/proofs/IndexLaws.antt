@@ -25,7 +25,7 @@ use Rattle.standard_text.specs.declared.Set.{Set}
 use Rattle.standard_text.specs.declared.Sets.{Sets}
 use Rattle.standard_text.specs.declared.Index.{Index}
 use Rattle.standard_text.specs.Index.{setAt, noSet, setInto, noSets, setsAt, indexed, indexIn, SetInside}
-use Rattle.standard_text.proofs.Ends.{Stays, stays-same, _then_, uint-stays, ranged-stays, mark-stays, opened-stays, map-stays, block-stays, closed-stays}
+use Rattle.aipsio.proofs.Ends.{Stays, stays-same, _then_, uint-stays, ranged-stays, mark-stays, opened-stays, map-stays, block-stays, closed-stays}
 
 -- a longer text
 wider : {a b each : ℕ} {x : Set} → a ≤ b → SetInside a each x → SetInside b each x

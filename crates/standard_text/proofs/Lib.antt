@@ -1,5 +1,4 @@
 -- Laws that proofs of this crate and of those above it cite.
-pub mod Ends
 pub mod HeaderLaws
 pub mod IndexLaws
 pub mod Vectors

@@ -1,5 +1,5 @@
 -- Document 01, "StandardStMan", and Note 260, 3.4.2, Header: its fields in file order.
-use Prim.Native.Nat.{ℕ, _+_, _*_, _≤_, _<_}
+use Prim.Native.Nat.{ℕ, _≤_, _<_}
 use mathlib.Core.Path.{_≡_}
 use mathlib.Core.List.{List}
 use mathlib.Core.Bool.{Bool, true, cond}
@@ -10,17 +10,10 @@ use Rattle.bytes_at.specs.Steps.{_>>=_}
 use Rattle.aipsio.specs.declared.Cursor.{Cursor}
 use Rattle.aipsio.specs.Field.{judged, uintAt, numberAt, markAt, flagAt}
 use Rattle.aipsio.specs.Object.{opened, closed}
+use Rattle.manager_file.specs.Start.{headerRoom, sameEndian}
 use Rattle.standard_text.specs.declared.BucketFields.{BucketFields}
 use Rattle.standard_text.specs.declared.IndexFields.{IndexFields}
 use Rattle.standard_text.specs.declared.Header.{Header}
-
--- "inside the first 512 bytes": where the header's container ends in a file of len bytes
-abbrev pub headerRoom : ℕ → ℕ
-headerRoom len = cond (leb len 512) len 512
-
--- "its Bool equals the table's endianness"
-abbrev pub sameEndian : ℕ → Bool → Bool
-sameEndian flag big = cond big (eqb flag 1) (eqb flag 0)
 
 -- "Header version 3", "its Bool equals the table's endianness" (else 6), "bucket size 16 to 1,048,576", "buckets 0 to 4,096",
 -- cache size, number of free buckets, first free bucket
@@ -123,7 +116,3 @@ pub record HeaderWords (h : Header) : Type 0 where
   pub index-count : h .«index_count» < 4294967296
   pub first-index : h .«first_index» < 4294967296
   pub offset : h .offset < 4294967296
-
--- 1 where "the file is shorter than 512 + buckets x bucket size"
-abbrev pub longEnough : ℕ → ℕ → ℕ → Bool
-longEnough len size count = leb (512 + count * size) len

@@ -3,8 +3,6 @@ ghost use mathlib.Core.Path.{_≡_};
 ghost use Prim.Native.Nat.{ℕ, _≤_, _<_};
 ghost use lib.ListN.{length, getD};
 ghost use Rattle.standard_text.specs.Header.{
-  headerRoom,
-  sameEndian,
   bucketFieldsAt,
   offsetFits,
   indexFieldsAt,
@@ -12,7 +10,6 @@ ghost use Rattle.standard_text.specs.Header.{
   headerAt,
   HeaderBounds,
   HeaderWords,
-  longEnough,
 };
 ghost use Rattle.standard_text.specs.Index.{setAt, noSet, setsAt, indexed, indexAt, SetInside};
 use aipsio::Cursor;
@@ -79,26 +76,6 @@ pub struct Index {
     pub refused: usize,
 }
 
-// Where the header's container ends: at 512, or with the file.
-fn header_room(len: usize) -> usize
-    ensures { λ r. ⌜ r ≡ headerRoom len ⌝ }
-{
-    if len <= 512 {
-        return len;
-    }
-    512
-}
-
-// Whether the header's Bool is the table's endianness.
-fn same_endian(flag: usize, big: bool) -> bool
-    ensures { λ r. ⌜ r ≡ sameEndian flag big ⌝ }
-{
-    if big {
-        return flag == 1;
-    }
-    flag == 0
-}
-
 // From the object's header to the first free bucket.
 fn read_bucket_fields(s: &[u8], c: Cursor, big: bool) -> BucketFields
     ensures { λ r. ⌜ r ≡ bucketFieldsAt (now (s .entry)) c big ⌝ }
@@ -106,7 +83,7 @@ fn read_bucket_fields(s: &[u8], c: Cursor, big: bool) -> BucketFields
 {
     let o = aipsio::open(s, c, b"StandardStMan", 3, 3);
     let flag = aipsio::flag(s, o.next);
-    let same = same_endian(flag.value, big);
+    let same = manager_file::same_endian(flag.value, big);
     let d = aipsio::judge(flag.next, o.next.at, same, 6);
     let size = aipsio::number(s, d, Width::Four, 16, 1048576);
     let count = aipsio::number(s, size.next, Width::Four, 0, 4096);
@@ -196,7 +173,7 @@ pub fn read_header(f: &[u8], big: bool) -> Header
     ensures bounded { λ r. ⌜ HeaderBounds r ⌝ }
     ensures words { λ r. ⌜ HeaderWords r ⌝ }
 {
-    let room = header_room(f.len());
+    let room = manager_file::header_room(f.len());
     let start = Cursor {
         at: 0,
         end: room,
@@ -208,14 +185,6 @@ pub fn read_header(f: &[u8], big: bool) -> Header
     let i = read_index_fields(f, b.next);
     let e = aipsio::close(i.next, m);
     answer_header(e, b, i)
-}
-
-// Whether a file of len bytes holds all its buckets.
-pub fn long_enough(len: usize, size: usize, count: usize) -> bool
-    requires { ⌜ (size ≤ 1048576) × (count ≤ 4096) ⌝ }
-    ensures { λ r. ⌜ r ≡ longEnough len size count ⌝ }
-{
-    512 + count * size <= len
 }
 
 // An SSMIndex with its mark.

@@ -1,7 +1,7 @@
 -- Document 01, "table.dat", and Note 260, 3.1: Description and Column by name.
 use Prim.Native.Nat.{ℕ}
 use mathlib.Core.List.{List}
-use mathlib.Core.Bool.{Bool, true, false, cond}
+use mathlib.Core.Bool.{false, cond}
 use lib.ListN.{length, replicate}
 use lib.Dec.{eqb, leb, ltb}
 use Rattle.bytes_at.specs.Bytes.{bytes}

@@ -1,6 +1,6 @@
 -- `bytes_at::many_at` meets its contract. The loop's invariant: the first i bytes are the same.
 use native.Mathlib.Omega.{arith}
-use Prim.Native.Nat.{_+_, _-_, _≤_}
+use Prim.Native.Nat.{_+_, _-_}
 use borrow.Author.Needs.{needs}
 use denote.Ref.{now}
 use lib.ListN.{length, take, drop}

@@ -1,6 +1,5 @@
 -- `c_api::answer` meets its contract. The loop's invariant: i values are written.
 use Prim.Native.Nat.{_-_}
-use mathlib.Core.Path.{refl, _∙_}
 use native.Mathlib.Nat.{zero-add}
 use native.Mathlib.Omega.{arith}
 use borrow.Author.Needs.{needs}

@@ -1,6 +1,5 @@
 -- `column_desc::skip_default` meets its contract: a case for each way out.
 use mathlib.Core.Path.{ap}
-use borrow.Author.Needs.{needs}
 use borrow.Author.Tests.{eq-eqb, ne-eqb}
 use Rattle.aipsio.specs.declared.Value.{Value}
 use Rattle.aipsio.specs.declared.Text.{Text}

@@ -1,5 +1,4 @@
 -- `lookup::cell_bit` meets its contract.
-use borrow.Author.Needs.{needs}
 use Rattle.bytes_at.proofs.Stepped.{free}
 use Rattle.lookup.proofs.Cells.{bit-refused, bit-none, bit-there, can-find, bit-here}
 use Rattle.lookup.proofs.cell_bit.Statement.{statement}

@@ -1,6 +1,5 @@
 -- `lookup_parts::set_at` meets its contract.
 use borrow.Author.Needs.{needs}
-use Rattle.standard_text.specs.Index.{noSet}
 use Rattle.lookup_parts.proofs.Past.{past}
 use Rattle.lookup_parts.proofs.set_at.Statement.{statement}
 use Rattle.lookup_parts.proofs.set_at.Tie as tie

@@ -1,8 +1,7 @@
 -- `standard::check` meets its contract: a law for each way out.
 use borrow.Author.Needs.{needs}
 use borrow.Author.Tests.{not-true, not-false}
-use mathlib.Core.Path.{_≡_, sym, ap, _∙_}
-use native.Mathlib.Omega.{arith}
+use mathlib.Core.Path.{sym, _∙_}
 use Rattle.bytes_at.proofs.Stepped.{free}
 use Rattle.standard.proofs.Checking.{area-passed, room-passed, index-is, map-is, room-holds, out-first, out-index, out-text, out-free, out-map, accepted}
 use Rattle.standard.proofs.check.Statement.{statement}

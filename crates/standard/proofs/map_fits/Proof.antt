@@ -1,5 +1,4 @@
 -- `standard::map_fits` meets its contract: each part of the map's test in its turn.
-use native.Mathlib.Omega.{arith}
 use borrow.Author.Needs.{needs}
 use borrow.Author.Tests.{not-true, not-false}
 use Rattle.standard.proofs.Fitting.{not-sets, not-counts, not-columns, not-apart, last}

@@ -2,9 +2,6 @@
 use Prim.Native.Nat.{_*_, _≤_}
 use native.Mathlib.Omega.{arith}
 use borrow.Author.Needs.{needs}
-use mathlib.Core.Path.{_≡_, ap}
-use Rattle.row_index.specs.declared.Entry.{Entry}
-use Rattle.standard_place.specs.Bit.{bitOf}
 use Rattle.standard_place.proofs.Bits.{product, bit-by}
 use Rattle.standard_place.proofs.first_bit.Statement.{statement}
 use Rattle.standard_place.proofs.first_bit.Tie as tie

@@ -1,11 +1,11 @@
 -- `table::column_by_name` meets its contract. The loop's invariant: no column before i has the name.
 use Prim.Native.Nat.{ℕ, _-_}
-use mathlib.Core.Path.{_≡_, sym, _∙_}
+use mathlib.Core.Path.{sym, _∙_}
 use native.Mathlib.Omega.{arith}
 use borrow.Author.Needs.{needs}
 use lib.ListN.{getD}
 use Rattle.bytes_at.proofs.Searched.{Searched, searched-none, searched-on, searched-here, searched-out}
-use Rattle.bytes_at.proofs.Stepped.{via, free}
+use Rattle.bytes_at.proofs.Stepped.{free}
 use Rattle.column_desc.specs.ColumnDesc.{isNamed, blank}
 use Rattle.column_desc.specs.ColumnDesc.{firstNamed}
 use Rattle.table.proofs.Named.{not-described, found-at, not-found}

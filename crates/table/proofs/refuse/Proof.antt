@@ -1,6 +1,5 @@
 -- `table::refuse` meets its contract: the number and zeros.
 use Rattle.bytes_at.proofs.Stepped.{free}
-use borrow.Author.Needs.{needs}
 use Rattle.table.specs.Table.{refusedWith}
 use Rattle.table.proofs.refuse.Statement.{statement}
 use Rattle.table.proofs.refuse.Tie as tie

@@ -1,9 +1,9 @@
--- `standard_text::long_enough` meets its contract: 4,096 buckets of 1,048,576 bytes fit.
+-- `manager_file::long_enough` meets its contract: 4,096 buckets of 1,048,576 bytes fit.
 use native.Mathlib.Omega.{arith}
 use borrow.Author.Needs.{needs}
-use Rattle.standard_text.proofs.HeaderLaws.{area-most}
-use Rattle.standard_text.proofs.long_enough.Statement.{statement}
-use Rattle.standard_text.proofs.long_enough.Tie as tie
+use Rattle.manager_file.proofs.Area.{area-most}
+use Rattle.manager_file.proofs.long_enough.Statement.{statement}
+use Rattle.manager_file.proofs.long_enough.Tie as tie
 
 pub long-enough-spec : {M : Type 1} → statement M
 long-enough-spec =

@@ -1,8 +1,8 @@
--- `standard_text::header_room` meets its contract, on either side of its test.
+-- `manager_file::header_room` meets its contract, on either side of its test.
 use native.Mathlib.Omega.{arith}
 use borrow.Author.Tests.{le-leb, lt-leb}
-use Rattle.standard_text.proofs.header_room.Statement.{statement}
-use Rattle.standard_text.proofs.header_room.Tie as tie
+use Rattle.manager_file.proofs.header_room.Statement.{statement}
+use Rattle.manager_file.proofs.header_room.Tie as tie
 
 pub header-room-spec : {M : Type 1} → statement M
 header-room-spec =
