@@ -3,31 +3,15 @@ ghost use mathlib.Core.Path.{_≡_};
 ghost use Prim.Native.Nat.{ℕ, _≤_, _<_};
 ghost use lib.ListN.{length, getD};
 ghost use Rattle.buckets.specs.Chain.{Area, padded};
-ghost use Rattle.cell_map.specs.Tests.{pairs};
-ghost use Rattle.cell_map.specs.Fits.{fits, clear};
-ghost use Rattle.extents.specs.Extents.{extentsFrom};
+ghost use Rattle.cell_map.specs.Fits.{fits};
 ghost use Rattle.standard_text.specs.Header.{headerAt};
 ghost use Rattle.standard_text.specs.Index.{noSet, SetInside};
 ghost use Rattle.standard_rules.specs.Rules.{textOf, setsFrom, columnsFrom, mapWith, checkedAs};
 ghost use Rattle.standard.specs.Standard.{beforeIndex, refusedFile};
-use column_desc::Column;
-use column_set::Binding;
 use standard_rules::Checked;
 use standard_text::Header;
 use standard_text::Set;
 use table::Description;
-
-// Whether no two extents of one set meet.
-fn columns_apart(x: standard_columns::Extents, n: usize) -> bool
-    requires { ⌜ n ≤ 64 ⌝ }
-    ensures { λ r. ⌜ r ≡ pairs clear (extentsFrom (x .kept) (x .sets) (x .starts) (x .ends) 0 n) ⌝ }
-{
-    let kept = x.kept;
-    let sets = x.sets;
-    let starts = x.starts;
-    let ends = x.ends;
-    extents::all_apart(&kept, &sets, &starts, &ends, n)
-}
 
 // Whether the map of rows, buckets and extents is right.
 fn map_fits(
@@ -35,31 +19,20 @@ fn map_fits(
     h: Header,
     text: &[u8],
     sets: [Set; 16],
-    rows: usize,
-    columns: [Column; 64],
-    bindings: [Binding; 64],
-    n: usize,
+    d: Description,
     sequence: usize,
 ) -> bool
     requires { ⌜ Area (now f) (h .size) (h .count) ⌝ }
-    requires { ⌜ (n ≤ 64) × (h .sets ≤ 16) × ((k : ℕ) → k < h .sets → SetInside (length (now text)) 4 (getD sets k noSet)) ⌝ }
-    ensures { λ r. ⌜ r ≡ fits (mapWith rows (columnsFrom sequence columns bindings n 0) (now (f .entry)) h (setsFrom (now (text .entry)) sets (h .sets) 0)) ⌝ }
+    requires { ⌜ (d .«column_count» ≤ 64) × (h .sets ≤ 16) × ((k : ℕ) → k < h .sets → SetInside (length (now text)) 4 (getD sets k noSet)) ⌝ }
+    ensures { λ r. ⌜ r ≡ fits (mapWith (d .rows) (columnsFrom sequence (d .columns) (d .bindings) (d .«column_count») 0) (now (f .entry)) h (setsFrom (now (text .entry)) sets (h .sets) 0)) ⌝ }
 {
     let m = h.sets;
     let size = h.size;
     let count = h.count;
-    if !standard_sets::sets_fit(text, sets, m, rows) {
+    if !standard_sets::sets_fit(text, sets, m, d.rows) {
         return false;
     }
-    if !standard_columns::counts_fit(bindings, n, sequence, sets, m) {
-        return false;
-    }
-    let x = standard_columns::place_columns(columns, bindings, n, sequence, sets, m, size);
-    let fit = x.fit;
-    if !fit {
-        return false;
-    }
-    if !columns_apart(x, n) {
+    if !standard_columns::columns_fit(d, sequence, sets, m, size) {
         return false;
     }
     standard_sets::buckets_apart(
@@ -142,19 +115,7 @@ pub fn check(d: Description, f: &[u8], sequence: usize, refused: usize, room: &m
         return refuse(10);
     }
     let sets = index.sets;
-    let columns = d.columns;
-    let bindings = d.bindings;
-    if !map_fits(
-        f,
-        h,
-        text,
-        sets,
-        d.rows,
-        columns,
-        bindings,
-        d.column_count,
-        sequence,
-    ) {
+    if !map_fits(f, h, text, sets, d, sequence) {
         return refuse(11);
     }
     Checked {

@@ -11,6 +11,7 @@ use lib.ListN.{length, getD, set, replicate, length-set, getD-replicate, List·g
 use lib.Seq.{getD-set-same, getD-set-other}
 use lib.Dec.{eqb}
 use borrow.Author.Tests.{eq-eqb, ne-eqb}
+use Rattle.column_desc.specs.declared.Column.{Column}
 use Rattle.column_set.specs.declared.Binding.{Binding}
 use Rattle.column_set.specs.ColumnSet.{noBinding}
 use Rattle.cell_map.specs.Tests.{allFrom}
@@ -67,7 +68,7 @@ one-more-length false s counts = refl
 pub record Counting (sequence : ℕ) (bs : List Binding) (n : ℕ) (counts : List ℕ) (i : ℕ) : Type 0 where
   pub within : i ≤ n
   pub long : length counts ≡ 16
-  pub counted : Counted counts sequence bs i
+  pub counted : (cs : List Column) → Counted counts (columnsFrom sequence cs bs i 0)
 
 pub counting-start : (sequence : ℕ) (bs : List Binding) (n : ℕ) → Counting sequence bs n (replicate 16 0) 0
 unfolding columnsFrom boundTo
@@ -103,16 +104,13 @@ module _ {sequence : ℕ} {bs : List Binding} {n : ℕ} {counts : List ℕ} {i :
             ∙ ap (λ j. boundTo k (columnsFrom sequence cs bs j 0)) (sym (add-one i));
       }
 
-  pub counting-end : n ≤ i → Counted counts sequence bs n
+  pub counting-end : n ≤ i → (cs : List Column) → Counted counts (columnsFrom sequence cs bs n 0)
   counting-end h = let e : i ≡ n = omega (arith, v .within) in rw (← e) (v .counted)
 
 -- ---- comparing: whatever columns the counts are of, the test of the sets from k on is the test of all
-abbrev CountsOf : List ℕ → List MapColumn → Type 0
-CountsOf counts l = (k : ℕ) → k < 16 → getD counts k 0 ≡ boundTo k l
-
 pub record Comparing (counts : List ℕ) (sets : List Set) (m k : ℕ) : Type 0 where
   pub within : k ≤ m
-  pub same : (text : List ℕ) (l : List MapColumn) → CountsOf counts l
+  pub same : (text : List ℕ) (l : List MapColumn) → Counted counts l
       → allFrom (countFits l) 0 (setsFrom text sets m 0) ≡ allFrom (countFits l) k (setsFrom text sets (m - k) k)
 
 pub comparing-start : (counts : List ℕ) (sets : List Set) (m : ℕ) → Comparing counts sets m 0
@@ -121,7 +119,7 @@ comparing-start counts sets m =
     record { within = zero-le; same = λ text l w. ap (λ j. allFrom (countFits l) 0 (setsFrom text sets j 0)) e }
 
 module _ {counts : List ℕ} {sets : List Set} {m k : ℕ} (v : Comparing counts sets m k) where
-  one : (text : List ℕ) (l : List MapColumn) → CountsOf counts l → m ≤ 16 → k < m
+  one : (text : List ℕ) (l : List MapColumn) → Counted counts l → m ≤ 16 → k < m
       → allFrom (countFits l) 0 (setsFrom text sets m 0)
       ≡ (eqb (getD counts k 0) (getD sets k noSet .columns) && allFrom (countFits l) (k + 1) (setsFrom text sets (m - (k + 1)) (k + 1)))
   unfolding allFrom setsFrom
@@ -136,11 +134,9 @@ module _ {counts : List ℕ} {sets : List Set} {m k : ℕ} (v : Comparing counts
         same = λ text l w. one text l w g h ∙ rw (eq-eqb (getD counts k 0) (getD sets k noSet .columns) q);
       }
 
-  module _ (sequence : ℕ) (bs : List Binding) (n : ℕ) (w : Counted counts sequence bs n) where
-    pub comparing-not : m ≤ 16 → k < m → (getD counts k 0 ≡ getD sets k noSet .columns → ⊥) → CountsFit false sequence bs n sets m
-    comparing-not g h q text cs =
-        sym (one text (columnsFrom sequence cs bs n 0) (w cs) g h ∙ rw (ne-eqb (getD counts k 0) (getD sets k noSet .columns) q))
+  pub comparing-not : m ≤ 16 → k < m → (getD counts k 0 ≡ getD sets k noSet .columns → ⊥) → CountsFit false counts sets m
+  comparing-not g h q text l w = sym (one text l w g h ∙ rw (ne-eqb (getD counts k 0) (getD sets k noSet .columns) q))
 
-    pub comparing-end : m ≤ k → CountsFit true sequence bs n sets m
-    unfolding allFrom setsFrom
-    comparing-end h text cs = let e : m - k ≡ 0 = omega arith in sym (v .same text (columnsFrom sequence cs bs n 0) (w cs) ∙ rw e)
+  pub comparing-end : m ≤ k → CountsFit true counts sets m
+  unfolding allFrom setsFrom
+  comparing-end h text l w = let e : m - k ≡ 0 = omega arith in sym (v .same text l w ∙ rw e)

@@ -3,3 +3,4 @@ pub mod Listed
 pub mod Facts
 mod Counting
 mod Placing
+mod Together

@@ -2,29 +2,14 @@
 // set has, and their extents in the bucket.
 ghost use mathlib.Core.Path.{_≡_};
 ghost use mathlib.Core.Bool.{_&&_};
-ghost use mathlib.Core.List.{map};
 ghost use Prim.Native.Nat.{ℕ, _≤_, _<_};
 ghost use lib.ListN.{getD};
 ghost use lib.Dec.{leb, ltb};
-ghost use Rattle.cell_map.specs.Tests.{_⇒_, all};
-ghost use Rattle.cell_map.specs.Fits.{setKnown, inBucket};
-ghost use Rattle.extents.specs.Extents.{extentsFrom};
+ghost use Rattle.cell_map.specs.Tests.{_⇒_};
 ghost use Rattle.standard_text.specs.Index.{noSet};
-ghost use Rattle.standard_rules.specs.Rules.{columnsFrom};
-ghost use Rattle.standard_columns.specs.Columns.{oneMore, Counted, CountsFit, perOf, extentIn};
-use column_desc::Column;
-use column_set::Binding;
+ghost use Rattle.standard_columns.specs.Columns.{oneMore, CountsFit, ColumnsFit, perOf};
 use standard_text::Set;
-
-// The columns by position: whether each is kept in the file, its set, and where its extent starts and ends; and whether every
-// kept column names a set that is there and lies in the bucket.
-pub struct Extents {
-    pub fit: bool,
-    pub kept: [bool; 64],
-    pub sets: [usize; 64],
-    pub starts: [usize; 64],
-    pub ends: [usize; 64],
-}
+use table::Description;
 
 // One more at place k of a list of counts, where the column is kept.
 fn one_more(counts: [usize; 16], kept: bool, k: usize) -> [usize; 16]
@@ -41,36 +26,11 @@ fn one_more(counts: [usize; 16], kept: bool, k: usize) -> [usize; 16]
     list
 }
 
-// How many of n columns, kept by the manager with the sequence number, name each set.
-fn count_columns(bindings: [Binding; 64], n: usize, sequence: usize) -> [usize; 16]
-    requires { ⌜ n ≤ 64 ⌝ }
-    ensures { λ r. ⌜ Counted r sequence bindings n ⌝ }
+// Whether the column count of each of m sets is the one counted.
+fn counts_fit(counts: &[usize; 16], sets: [Set; 16], m: usize) -> bool
+    requires { ⌜ m ≤ 16 ⌝ }
+    ensures { λ r. ⌜ CountsFit r (now (counts .entry)) sets m ⌝ }
 {
-    let mut counts = [0usize; 16];
-    let mut i = 0;
-    while i < n {
-        let b = bindings[i];
-        let kept = b.sequence as usize == sequence;
-        let set = b.set as usize;
-        let more = one_more(counts, kept, set);
-        counts = more;
-        i += 1;
-    }
-    counts
-}
-
-// Whether the column count of each of m sets agrees with DMInfo.
-pub fn counts_fit(
-    bindings: [Binding; 64],
-    n: usize,
-    sequence: usize,
-    sets: [Set; 16],
-    m: usize,
-) -> bool
-    requires { ⌜ (n ≤ 64) × (m ≤ 16) ⌝ }
-    ensures { λ r. ⌜ CountsFit r sequence bindings n sets m ⌝ }
-{
-    let counts = count_columns(bindings, n, sequence);
     let mut k = 0;
     while k < m {
         let s = sets[k];
@@ -130,21 +90,15 @@ fn both(a: bool, b: bool) -> bool
     false
 }
 
-// The extents of n columns in the buckets of m sets.
-pub fn place_columns(
-    columns: [Column; 64],
-    bindings: [Binding; 64],
-    n: usize,
-    sequence: usize,
-    sets: [Set; 16],
-    m: usize,
-    size: usize,
-) -> Extents
-    requires { ⌜ (n ≤ 64) × (m ≤ 16) × ((k : ℕ) → k < m → getD sets k noSet .per ≤ 8388608) ⌝ }
-    ensures extents { λ r. ⌜ extentsFrom (r .kept) (r .sets) (r .starts) (r .ends) 0 n ≡ map (extentIn sets m) (columnsFrom sequence columns bindings n 0) ⌝ }
-    ensures fit { λ r. ⌜ r .fit ≡ (all (setKnown m) (columnsFrom sequence columns bindings n 0) && all (inBucket size) (map (extentIn sets m) (columnsFrom sequence columns bindings n 0))) ⌝ }
+// Whether the columns of a file are right: the column count of each of m sets agrees with DMInfo, every kept column names a set
+// that is there and lies in the bucket, and no two extents of one set meet. The table is read where it lies, in one loop.
+pub fn columns_fit(d: Description, sequence: usize, sets: [Set; 16], m: usize, size: usize) -> bool
+    requires { ⌜ (d .«column_count» ≤ 64) × (m ≤ 16) × ((k : ℕ) → k < m → getD sets k noSet .per ≤ 8388608) ⌝ }
+    ensures { λ r. ⌜ ColumnsFit r sequence (d .columns) (d .bindings) (d .«column_count») sets m size ⌝ }
 {
     let pers = rows_per(sets, m);
+    let n = d.column_count;
+    let mut counts = [0usize; 16];
     let mut fit = true;
     let mut kept = [false; 64];
     let mut owners = [0usize; 64];
@@ -152,8 +106,8 @@ pub fn place_columns(
     let mut ends = [0usize; 64];
     let mut i = 0;
     while i < n {
-        let c = columns[i];
-        let b = bindings[i];
+        let c = d.columns[i];
+        let b = d.bindings[i];
         let here = b.sequence as usize == sequence;
         let set = b.set as usize;
         let start = b.offset as usize;
@@ -165,13 +119,15 @@ pub fn place_columns(
         starts[i] = start;
         ends[i] = end;
         fit = both(fit, ok);
+        let more = one_more(counts, here, set);
+        counts = more;
         i += 1;
     }
-    Extents {
-        fit: fit,
-        kept: kept,
-        sets: owners,
-        starts: starts,
-        ends: ends,
+    if !fit {
+        return false;
     }
+    if !counts_fit(&counts, sets, m) {
+        return false;
+    }
+    extents::all_apart(&kept, &owners, &starts, &ends, n)
 }

@@ -26,13 +26,13 @@ returns-4 : tie.Need-returns-4
 returns-4 c = out-free _ _ _ _ _ _ (c .before .before .before .before .before .before .before .before .before .before .before .before .before .before .read-header .ensures .0) (c .before .before .before .before .before .before .before .before .before .before .before .before .before .before-index .ensures) (c .before .before .before .before .before .before .before .before .before .before .before .before .if1 .left) (c .before .before .before .before .before .before .before .before .before .before .gather-index .ensures .0) (not-false _ (c .before .before .before .before .before .before .before .if2 .left)) (index-is _ _ _ (area-passed _ _ _ _ (c .before .before .before .before .before .before .before .before .before .before .before .before .before .before .read-header .ensures .1 .0) (sym (c .before .before .before .before .before .before .before .before .before .before .before .before .before .before-index .ensures) ∙ (c .before .before .before .before .before .before .before .before .before .before .before .before .if1 .left))) (c .before .before .before .before .before .before .before .before .before .before .gather-index .ensures .0) (not-false _ (c .before .before .before .before .before .before .before .if2 .left)) (c .before .before .before .before .before .before .before .before .before .before .gather-index .ensures .1) (c .before .before .before .before .before .part .ensures) (c .before .before .before .before .read-index .ensures .0)) (c .before .before .before .if3 .left) (c .before .before .free-list-ok .ensures) (not-true _ (c .before .if4 .taken)) (c .refuse4 .ensures)
 
 map-fits-requires : tie.Need-map-fits-requires
-map-fits-requires c κs = ((area-passed _ _ _ _ (c .before .before .before .before .before .before .before .before .before .before .before .before .before .before .before .before .read-header .ensures .1 .0) (sym (c .before .before .before .before .before .before .before .before .before .before .before .before .before .before .before .before-index .ensures) ∙ (c .before .before .before .before .before .before .before .before .before .before .before .before .before .before .if1 .left))), (search needs, (c .before .before .before .before .before .before .before .before .before .before .before .before .before .before .before .before .read-header .ensures .1 .0 .sets-most), (c .before .before .before .before .before .before .read-index .ensures .1) (c .before .before .before .before .before .if3 .left)))
+map-fits-requires c κs = ((area-passed _ _ _ _ (c .before .before .before .before .before .before .before .before .before .before .before .before .before .before .read-header .ensures .1 .0) (sym (c .before .before .before .before .before .before .before .before .before .before .before .before .before .before-index .ensures) ∙ (c .before .before .before .before .before .before .before .before .before .before .before .before .if1 .left))), (search needs, (c .before .before .before .before .before .before .before .before .before .before .before .before .before .before .read-header .ensures .1 .0 .sets-most), (c .before .before .before .before .read-index .ensures .1) (c .before .before .before .if3 .left)))
 
 returns-5 : tie.Need-returns-5
-returns-5 c = out-map _ _ _ _ _ _ (c .before .before .before .before .before .before .before .before .before .before .before .before .before .before .before .before .before .before .before .read-header .ensures .0) (c .before .before .before .before .before .before .before .before .before .before .before .before .before .before .before .before .before .before .before-index .ensures) (c .before .before .before .before .before .before .before .before .before .before .before .before .before .before .before .before .before .if1 .left) (c .before .before .before .before .before .before .before .before .before .before .before .before .before .before .before .gather-index .ensures .0) (not-false _ (c .before .before .before .before .before .before .before .before .before .before .before .before .if2 .left)) (index-is _ _ _ (area-passed _ _ _ _ (c .before .before .before .before .before .before .before .before .before .before .before .before .before .before .before .before .before .before .before .read-header .ensures .1 .0) (sym (c .before .before .before .before .before .before .before .before .before .before .before .before .before .before .before .before .before .before .before-index .ensures) ∙ (c .before .before .before .before .before .before .before .before .before .before .before .before .before .before .before .before .before .if1 .left))) (c .before .before .before .before .before .before .before .before .before .before .before .before .before .before .before .gather-index .ensures .0) (not-false _ (c .before .before .before .before .before .before .before .before .before .before .before .before .if2 .left)) (c .before .before .before .before .before .before .before .before .before .before .before .before .before .before .before .gather-index .ensures .1) (c .before .before .before .before .before .before .before .before .before .before .part .ensures) (c .before .before .before .before .before .before .before .before .before .read-index .ensures .0)) (c .before .before .before .before .before .before .before .before .if3 .left) (c .before .before .before .before .before .before .before .free-list-ok .ensures) (not-false _ (c .before .before .before .before .before .before .if4 .left)) (map-is _ _ _ (area-passed _ _ _ _ (c .before .before .before .before .before .before .before .before .before .before .before .before .before .before .before .before .before .before .before .read-header .ensures .1 .0) (sym (c .before .before .before .before .before .before .before .before .before .before .before .before .before .before .before .before .before .before .before-index .ensures) ∙ (c .before .before .before .before .before .before .before .before .before .before .before .before .before .before .before .before .before .if1 .left))) (c .before .before .before .before .before .before .before .before .before .before .before .before .before .before .before .gather-index .ensures .0) (not-false _ (c .before .before .before .before .before .before .before .before .before .before .before .before .if2 .left)) (c .before .before .before .before .before .before .before .before .before .before .before .before .before .before .before .gather-index .ensures .1) (c .before .before .before .before .before .before .before .before .before .before .part .ensures) _ _ _ (c .before .before .map-fits .ensures)) (not-true _ (c .before .if5 .taken)) (c .refuse5 .ensures)
+returns-5 c = out-map _ _ _ _ _ _ (c .before .before .before .before .before .before .before .before .before .before .before .before .before .before .before .before .before .read-header .ensures .0) (c .before .before .before .before .before .before .before .before .before .before .before .before .before .before .before .before .before-index .ensures) (c .before .before .before .before .before .before .before .before .before .before .before .before .before .before .before .if1 .left) (c .before .before .before .before .before .before .before .before .before .before .before .before .before .gather-index .ensures .0) (not-false _ (c .before .before .before .before .before .before .before .before .before .before .if2 .left)) (index-is _ _ _ (area-passed _ _ _ _ (c .before .before .before .before .before .before .before .before .before .before .before .before .before .before .before .before .before .read-header .ensures .1 .0) (sym (c .before .before .before .before .before .before .before .before .before .before .before .before .before .before .before .before .before-index .ensures) ∙ (c .before .before .before .before .before .before .before .before .before .before .before .before .before .before .before .if1 .left))) (c .before .before .before .before .before .before .before .before .before .before .before .before .before .gather-index .ensures .0) (not-false _ (c .before .before .before .before .before .before .before .before .before .before .if2 .left)) (c .before .before .before .before .before .before .before .before .before .before .before .before .before .gather-index .ensures .1) (c .before .before .before .before .before .before .before .before .part .ensures) (c .before .before .before .before .before .before .before .read-index .ensures .0)) (c .before .before .before .before .before .before .if3 .left) (c .before .before .before .before .before .free-list-ok .ensures) (not-false _ (c .before .before .before .before .if4 .left)) (map-is _ _ _ (area-passed _ _ _ _ (c .before .before .before .before .before .before .before .before .before .before .before .before .before .before .before .before .before .read-header .ensures .1 .0) (sym (c .before .before .before .before .before .before .before .before .before .before .before .before .before .before .before .before .before-index .ensures) ∙ (c .before .before .before .before .before .before .before .before .before .before .before .before .before .before .before .if1 .left))) (c .before .before .before .before .before .before .before .before .before .before .before .before .before .gather-index .ensures .0) (not-false _ (c .before .before .before .before .before .before .before .before .before .before .if2 .left)) (c .before .before .before .before .before .before .before .before .before .before .before .before .before .gather-index .ensures .1) (c .before .before .before .before .before .before .before .before .part .ensures) _ _ _ (c .before .before .map-fits .ensures)) (not-true _ (c .before .if5 .taken)) (c .refuse5 .ensures)
 
 returns-6 : tie.Need-returns-6
-returns-6 c = accepted _ _ _ _ _ _ (c .before .before .before .before .before .before .before .before .before .before .before .before .before .before .before .before .before .before .read-header .ensures .0) (c .before .before .before .before .before .before .before .before .before .before .before .before .before .before .before .before .before .before-index .ensures) (c .before .before .before .before .before .before .before .before .before .before .before .before .before .before .before .before .if1 .left) (c .before .before .before .before .before .before .before .before .before .before .before .before .before .before .gather-index .ensures .0) (not-false _ (c .before .before .before .before .before .before .before .before .before .before .before .if2 .left)) (index-is _ _ _ (area-passed _ _ _ _ (c .before .before .before .before .before .before .before .before .before .before .before .before .before .before .before .before .before .before .read-header .ensures .1 .0) (sym (c .before .before .before .before .before .before .before .before .before .before .before .before .before .before .before .before .before .before-index .ensures) ∙ (c .before .before .before .before .before .before .before .before .before .before .before .before .before .before .before .before .if1 .left))) (c .before .before .before .before .before .before .before .before .before .before .before .before .before .before .gather-index .ensures .0) (not-false _ (c .before .before .before .before .before .before .before .before .before .before .before .if2 .left)) (c .before .before .before .before .before .before .before .before .before .before .before .before .before .before .gather-index .ensures .1) (c .before .before .before .before .before .before .before .before .before .part .ensures) (c .before .before .before .before .before .before .before .before .read-index .ensures .0)) (c .before .before .before .before .before .before .before .if3 .left) (c .before .before .before .before .before .before .free-list-ok .ensures) (not-false _ (c .before .before .before .before .before .if4 .left)) (map-is _ _ _ (area-passed _ _ _ _ (c .before .before .before .before .before .before .before .before .before .before .before .before .before .before .before .before .before .before .read-header .ensures .1 .0) (sym (c .before .before .before .before .before .before .before .before .before .before .before .before .before .before .before .before .before .before-index .ensures) ∙ (c .before .before .before .before .before .before .before .before .before .before .before .before .before .before .before .before .if1 .left))) (c .before .before .before .before .before .before .before .before .before .before .before .before .before .before .gather-index .ensures .0) (not-false _ (c .before .before .before .before .before .before .before .before .before .before .before .if2 .left)) (c .before .before .before .before .before .before .before .before .before .before .before .before .before .before .gather-index .ensures .1) (c .before .before .before .before .before .before .before .before .before .part .ensures) _ _ _ (c .before .map-fits .ensures)) (not-false _ (c .if5 .left)) (room-holds _ _ _ (area-passed _ _ _ _ (c .before .before .before .before .before .before .before .before .before .before .before .before .before .before .before .before .before .before .read-header .ensures .1 .0) (sym (c .before .before .before .before .before .before .before .before .before .before .before .before .before .before .before .before .before .before-index .ensures) ∙ (c .before .before .before .before .before .before .before .before .before .before .before .before .before .before .before .before .if1 .left))) (c .before .before .before .before .before .before .before .before .before .before .before .before .before .before .gather-index .ensures .0) (not-false _ (c .before .before .before .before .before .before .before .before .before .before .before .if2 .left)) (c .before .before .before .before .before .before .before .before .before .before .before .before .before .before .gather-index .ensures .1) (c .before .before .before .before .before .before .before .before .before .part .ensures))
+returns-6 c = accepted _ _ _ _ _ _ (c .before .before .before .before .before .before .before .before .before .before .before .before .before .before .before .before .read-header .ensures .0) (c .before .before .before .before .before .before .before .before .before .before .before .before .before .before .before .before-index .ensures) (c .before .before .before .before .before .before .before .before .before .before .before .before .before .before .if1 .left) (c .before .before .before .before .before .before .before .before .before .before .before .before .gather-index .ensures .0) (not-false _ (c .before .before .before .before .before .before .before .before .before .if2 .left)) (index-is _ _ _ (area-passed _ _ _ _ (c .before .before .before .before .before .before .before .before .before .before .before .before .before .before .before .before .read-header .ensures .1 .0) (sym (c .before .before .before .before .before .before .before .before .before .before .before .before .before .before .before .before-index .ensures) ∙ (c .before .before .before .before .before .before .before .before .before .before .before .before .before .before .if1 .left))) (c .before .before .before .before .before .before .before .before .before .before .before .before .gather-index .ensures .0) (not-false _ (c .before .before .before .before .before .before .before .before .before .if2 .left)) (c .before .before .before .before .before .before .before .before .before .before .before .before .gather-index .ensures .1) (c .before .before .before .before .before .before .before .part .ensures) (c .before .before .before .before .before .before .read-index .ensures .0)) (c .before .before .before .before .before .if3 .left) (c .before .before .before .before .free-list-ok .ensures) (not-false _ (c .before .before .before .if4 .left)) (map-is _ _ _ (area-passed _ _ _ _ (c .before .before .before .before .before .before .before .before .before .before .before .before .before .before .before .before .read-header .ensures .1 .0) (sym (c .before .before .before .before .before .before .before .before .before .before .before .before .before .before .before .before-index .ensures) ∙ (c .before .before .before .before .before .before .before .before .before .before .before .before .before .before .if1 .left))) (c .before .before .before .before .before .before .before .before .before .before .before .before .gather-index .ensures .0) (not-false _ (c .before .before .before .before .before .before .before .before .before .if2 .left)) (c .before .before .before .before .before .before .before .before .before .before .before .before .gather-index .ensures .1) (c .before .before .before .before .before .before .before .part .ensures) _ _ _ (c .before .map-fits .ensures)) (not-false _ (c .if5 .left)) (room-holds _ _ _ (area-passed _ _ _ _ (c .before .before .before .before .before .before .before .before .before .before .before .before .before .before .before .before .read-header .ensures .1 .0) (sym (c .before .before .before .before .before .before .before .before .before .before .before .before .before .before .before .before-index .ensures) ∙ (c .before .before .before .before .before .before .before .before .before .before .before .before .before .before .if1 .left))) (c .before .before .before .before .before .before .before .before .before .before .before .before .gather-index .ensures .0) (not-false _ (c .before .before .before .before .before .before .before .before .before .if2 .left)) (c .before .before .before .before .before .before .before .before .before .before .before .before .gather-index .ensures .1) (c .before .before .before .before .before .before .before .part .ensures))
 
 pub check-spec : {M : Type 1} → statement M
 check-spec =

@@ -7,26 +7,25 @@ use Rattle.standard_columns.proofs.counts_fit.Statement.{statement}
 use Rattle.standard_columns.proofs.counts_fit.Tie as tie
 
 abbrev Inv-loop : tie.InvT-loop
-Inv-loop n sequence m sets counts k₀ k = Comparing counts sets m k
+Inv-loop counts m sets k₀ k = Comparing counts sets m k
 
 abbrev μ-loop : tie.MeasureT-loop
-μ-loop n sequence m sets counts k₀ k = m - k
+μ-loop counts m sets k₀ k = m - k
 
 returns : tie.Need-returns Inv-loop μ-loop
-returns c = comparing-not (c .before .before .before .before .loop .inv) _ _ _ (c .before .before .before .before .before .count-columns .ensures) (omega arith) (omega arith) (c .if1 .taken)
+returns c = comparing-not (c .before .before .before .before .before .loop .inv) (omega arith) (omega arith) (c .if1 .taken)
 
 loop-again : tie.Need-loop-again Inv-loop μ-loop
-loop-again c = comparing-again (c .before .before .before .before .loop .inv) (omega arith) (omega arith) (c .if1 .left)
+loop-again c = comparing-again (c .before .before .before .before .before .loop .inv) (omega arith) (omega arith) (c .if1 .left)
 
 returns-2 : tie.Need-returns-2 Inv-loop μ-loop
-returns-2 c = comparing-end (c .before .loop .inv) _ _ _ (c .before .before .count-columns .ensures) (omega arith)
+returns-2 c = comparing-end (c .before .loop .inv) (omega arith)
 
 pub counts-fit-spec : {M : Type 1} → statement M
 counts-fit-spec =
     tie.close (tie.spec
     Inv-loop
     μ-loop
-    (λ c κs. search needs)
     (λ c. comparing-start _ _ _)
     (λ c. search needs)
     (λ c. search needs)

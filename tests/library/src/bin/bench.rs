@@ -6,6 +6,7 @@ use std::hint::black_box;
 use std::time::{Duration, Instant};
 use writer::buckets::{BucketFile, Buckets, Subject};
 use writer::cells;
+use writer::incremental::{DataBucket, IncrementalFile, Values};
 use writer::lean;
 use writer::standard::{Index, StandardFile};
 use writer::table::{Column, Manager, BOOL, DOUBLE, FLOAT, INT, SHORT};
@@ -61,7 +62,7 @@ struct Files {
 }
 
 impl Files {
-    fn new(what: &'static str, subject: &Subject<StandardFile>, column: u64, calls: u32) -> Self {
+    fn new(what: &'static str, subject: &Subject<impl BucketFile>, column: u64, calls: u32) -> Self {
         Self {
             what,
             table: subject.table.encode(),
@@ -124,6 +125,8 @@ fn main() {
         Files::new("the small file", &small, 2, 1_000),
         Files::new("64 columns, 16 sets, 2,000 entries in an index chain", &many_sets(), 63, 20),
         Files::new("6 columns, 1 set, 1,349 buckets of 32,768 bytes", &large_buckets(), 5, 20),
+        Files::new("Incremental: 10 columns, 1 bucket of 32,768 bytes", &incremental(1), 5, 200),
+        Files::new("Incremental: 10 columns, 4,000 buckets of 32,768 bytes", &incremental(4_000), 5, 1),
     ];
     title("File check of");
     files.iter().for_each(Files::check);
@@ -191,5 +194,29 @@ fn large_buckets() -> Subject<StandardFile> {
     let buckets = Buckets::new("StandardStMan", 3, 1, 32_768, DATA + 1);
     let file = StandardFile::new(buckets, vec![DATA], vec![index]);
     let table = lean::bare(DATA * PER, 1, placed(0, &kinds, PER), vec![Manager::new("StandardStMan", 0)]);
+    Subject { table, number: 0, file }
+}
+
+/// So many buckets of 100 rows, each with 20 values of each of ten columns.
+fn incremental(buckets: u32) -> Subject<IncrementalFile> {
+    const ROWS: u32 = 100;
+    const VALUES: u32 = 20;
+    const BYTES: u32 = 8;
+    let columns = vec![Column::scalar(DOUBLE, ""); 10];
+    let values = |column| Values {
+        count: None,
+        starts: (0..VALUES).map(|value| value * (ROWS / VALUES)).collect(),
+        offsets: (0..VALUES).map(|value| (column * VALUES + value) * BYTES).collect(),
+    };
+    let bucket = |number| DataBucket {
+        number,
+        index_offset: None,
+        data: vec![0; (10 * VALUES * BYTES) as usize],
+        columns: (0..10).map(values).collect(),
+    };
+    let first_rows = (0..=buckets).map(|bucket| bucket * ROWS).collect();
+    let layout = Buckets::new("IncrementalStMan", 5, 1, 32_768, buckets);
+    let file = IncrementalFile::new(layout, true, first_rows, (0..buckets).map(bucket).collect());
+    let table = lean::bare(buckets * ROWS, 1, columns, vec![Manager::new("IncrementalStMan", 0)]);
     Subject { table, number: 0, file }
 }
