@@ -11,6 +11,7 @@ use lib.Dec.{T}
 use lib.ListN.{length, getD, replicate, length-append}
 use borrow.Author.Tests.{eq-eqb, ne-eqb}
 use Rattle.bytes_at.specs.Steps.{_>>=_}
+use Rattle.column_desc.specs.declared.Column.{Column}
 use Rattle.column_desc.specs.ColumnDesc.{blank}
 use Rattle.column_set.specs.declared.Binding.{Binding}
 use Rattle.table.specs.declared.Description.{Description}
@@ -24,7 +25,7 @@ use Rattle.row_index.specs.Numbers.{numbersAt}
 use Rattle.standard_text.specs.declared.Set.{Set}
 use Rattle.standard_text.specs.Header.{headerAt}
 use Rattle.standard_text.specs.Index.{noSet, indexAt, SetInside}
-use Rattle.standard_rules.specs.Rules.{textOf, setOf, columnOf, mapOf, refusalOf}
+use Rattle.standard_rules.specs.Rules.{textOf, setOf, columnOf, mapOf, refusalOf, checkedAs}
 use Rattle.incremental_rules.specs.Rules.{checkedAs as incrementalAs}
 use Rattle.incremental_rules.specs.Places.{placeOf as incrementalPlace}
 use Rattle.incremental_rules.proofs.Places.{checked-there}
@@ -36,12 +37,12 @@ use Rattle.lookup_rules.specs.declared.Question.{Question}
 use Rattle.lookup_rules.specs.declared.FileChecked.{FileChecked}
 use Rattle.lookup_rules.specs.declared.Staged.{Staged}
 use Rattle.lookup_rules.specs.declared.Answer.{Answer}
-use Rattle.lookup_rules.specs.Questions.{rowOf, positionOf, asksCell, bindingAt, targetOf, fileOf, planFor, stagesOf, placeIn, noPlan, answered, answerOf}
+use Rattle.lookup_rules.specs.Questions.{rowOf, positionOf, asksCell, bindingAt, targetOf, ofStandard, fileOf, planFor, stagesOf, placeIn, noPlan, answered, answerOf}
 use Rattle.lookup_rules.proofs.CellAsked.{cell-sequence, cell-column, cell-row, bits-for}
 use Rattle.lookup_rules.proofs.Columns.{column-kept, column-same}
 use Rattle.lookup_rules.proofs.Described.{described}
 use Rattle.lookup_rules.proofs.Files.{file-standard, file-incremental, standard-refused, incremental-refused, target-passed}
-use Rattle.lookup_rules.proofs.Stages.{check-of, row-passed, stages-sequence, stages-kind, target-column, target-sequence, target-position, stages-plan, stages-set, stages-first}
+use Rattle.lookup_rules.proofs.Stages.{check-of, row-passed, stages-sequence, stages-kind, target-column, target-sequence, target-position, target-binding, target-described, stages-plan, stages-set, stages-first}
 use Rattle.lookup.specs.Lookup.{Findable, cellBit, answerWith}
 use Rattle.lookup.proofs.Placing.{sets-told, size-told, set-known, set-same, set-covered, set-inside, size-most}
 
@@ -114,33 +115,31 @@ module _ (t f : List ℕ) (q : Question) (l : ℕ) (z : stagesOf t f q l .refuse
   covered = rw (set-same d sequence f before l (b .set) listed) at (set-covered d sequence f before l passes (b .set) listed)
 
   -- what the stages hand over
-  plan-is : stagesOf t f q l .plan ≡ planFor d false (fileOf d (targetOf d q) f row l) c
-  plan-is = rw (← k) (stages-plan t f q l)
-
-  plan-set : stagesOf t f q l .plan .set ≡ b .set
-  unfolding planFor _>>=_
-  plan-set = ap (λ (p : Plan). p .set) plan-is
+  file-is : fileOf d (targetOf d q) f row l ≡ ofStandard (checkedAs d sequence f before l) (targetOf d q .binding .set)
+  file-is = file-standard d (targetOf d q) f l k row
 
   set-is : stagesOf t f q l .set ≡ x
   set-is =
       stages-set t f q l
-      ∙ ap (λ (n : ℕ). getD (fileOf d (targetOf d q) f row l .sets) n noSet) plan-set
-      ∙ ap (λ (m : FileChecked). getD (m .sets) (b .set) noSet) (file-standard d (targetOf d q) f l k row)
+      ∙ ap (λ (m : FileChecked). m .set) file-is
+      ∙ ap (λ (y : Binding). getD (checkedAs d sequence f before l .sets) (y .set) noSet) (target-binding d q)
       ∙ ap (λ (s : List Set). getD s (b .set) noSet) (sets-told d sequence f before l passes)
 
   size-is : stagesOf t f q l .plan .size ≡ m .size
   unfolding planFor _>>=_
-  size-is =
-      ap (λ (p : Plan). p .size) plan-is ∙ ap (λ (m : FileChecked). m .size) (file-standard d (targetOf d q) f l k row)
-      ∙ size-told d sequence f before l passes
+  size-is = ap (λ (p : Plan). p .size) (stages-plan t f q l) ∙ ap (λ (m : FileChecked). m .size) file-is ∙ size-told d sequence f before l passes
 
   offset-is : stagesOf t f q l .plan .offset ≡ columnAt m c .offset
   unfolding planFor _>>=_
-  offset-is = ap (λ (p : Plan). p .offset) plan-is ∙ sym (ap (λ (e : MapColumn). e .offset) column-is)
+  offset-is =
+      ap (λ (p : Plan). p .offset) (stages-plan t f q l) ∙ rw k (ap (λ (y : Binding). y .offset) (target-binding d q))
+      ∙ sym (ap (λ (e : MapColumn). e .offset) column-is)
 
   bits-is : stagesOf t f q l .plan .bits ≡ columnAt m c .bits
   unfolding planFor _>>=_
-  bits-is = ap (λ (p : Plan). p .bits) plan-is ∙ sym (ap (λ (e : MapColumn). e .bits) column-is)
+  bits-is =
+      ap (λ (p : Plan). p .bits) (stages-plan t f q l) ∙ rw k (ap (λ (y : Column). y .bits) (target-described d q))
+      ∙ sym (ap (λ (e : MapColumn). e .bits) column-is)
 
   inside : SetInside (length text) 4 x
   inside = rw (sets-told d sequence f before l passes) at (set-inside d sequence f before l passes (b .set) listed)
@@ -190,7 +189,7 @@ module _ (t f : List ℕ) (q : Question) (l : ℕ) (k : targetOf (describedAs t)
 
   there-count : stagesOf t f q l .plan .bits ≡ incrementalPlace (describedAs t) (targetOf (describedAs t) q .sequence) f (positionOf q) (rowOf q) .count
   unfolding planFor incrementalPlace _>>=_
-  there-count = ap (λ (p : Plan). p .bits) (stages-plan t f q l) ∙ rw k
+  there-count = ap (λ (p : Plan). p .bits) (stages-plan t f q l) ∙ rw (k, target-described (describedAs t) q)
 
 -- ---- `cell_bit`
 module _ (y : List ℕ) (s : Staged) (q : Question) where

@@ -7,7 +7,7 @@ use Prim.Native.Nat.{ℕ}
 use native.Mathlib.Decide.{ℕ-discrete}
 use native.Mathlib.Omega.{arith}
 use lib.Dec.{eqb}
-use lib.ListN.{length, replicate}
+use lib.ListN.{length, getD, replicate}
 use borrow.Author.Tests.{eq-eqb, ne-eqb}
 use Rattle.bytes_at.specs.Stages.{_▷_, orNo}
 use Rattle.bytes_at.proofs.Stages.{then-left}
@@ -68,12 +68,13 @@ no-text e b k = absurd (false-true (sym k ∙ e))
 
 module _ (d : Description) (g : Target) (f : List ℕ) (row l : ℕ) where
   pub file-there : {m : IncrementalChecked} {none : Set} → g .incremental ≡ true → m ≡ incrementalAs d (g .sequence) f (g .refused) (g .position) row → none ≡ noSet
-      → record { refused = m .refused; size = m .size; sets = replicate 16 none; first = m .first } ≡ fileOf d g f row l
+      → record { refused = m .refused; size = m .size; set = none; first = m .first } ≡ fileOf d g f row l
   file-there k e n = rw (file-incremental d g f l k row, e, n)
 
-  pub file-here : {m : Checked} → g .incremental ≡ false → m ≡ checkedAs d (g .sequence) f (g .refused) l
-      → record { refused = m .refused; size = m .size; sets = m .sets; first = 0 } ≡ fileOf d g f row l
-  file-here k e = rw (file-standard d g f l k row, e)
+  pub file-here : {m : Checked} {set : Set} → g .incremental ≡ false → m ≡ checkedAs d (g .sequence) f (g .refused) l
+      → set ≡ getD (m .sets) (g .binding .set) noSet
+      → record { refused = m .refused; size = m .size; set = set; first = 0 } ≡ fileOf d g f row l
+  file-here k e n = rw (file-standard d g f l k row, n, e)
 
 -- a room that is kept or cleared
 module _ (t f : List ℕ) (q : Question) (l : ℕ) where

@@ -42,20 +42,21 @@ fn check_file(d: Description, g: Target, row: usize, file: &[u8], room: &mut [u8
     if g.incremental {
         let m = incremental::check(d, file, g.sequence, g.refused, g.position, row);
         let none = standard_text::no_set();
-        let sets = [none; 16];
         return FileChecked {
             refused: m.refused,
             size: m.size,
-            sets: sets,
+            set: none,
             first: m.first,
         };
     }
     let m = standard::check(d, file, g.sequence, g.refused, room);
     let sets = m.sets;
+    let b = g.binding;
+    let set = lookup_parts::set_at(sets, b.set as usize);
     FileChecked {
         refused: m.refused,
         size: m.size,
-        sets: sets,
+        set: set,
         first: 0,
     }
 }
@@ -70,9 +71,8 @@ fn stages(table: &[u8], file: &[u8], q: Question, room: &mut [u8]) -> Staged
     let g = lookup_parts::find_target(d, q);
     let row = lookup_parts::row_of(q);
     let m = check_file(d, g, row, file, room);
-    let p = lookup_parts::plan_for(d, g.incremental, m, g.position);
-    let sets = m.sets;
-    let s = lookup_parts::set_at(sets, p.set);
+    let p = lookup_parts::plan_for(g, m);
+    let s = m.set;
     let fresh = lookup_parts::fresh(q, p);
     let r1 = lookup_parts::stage(m.refused, fresh, 12);
     let below = lookup_parts::below(q, d.rows);

@@ -247,6 +247,8 @@ pub fn find_target(d: Description, q: Question) -> Target
         position: position,
         sequence: sequence,
         incremental: incremental,
+        column: c,
+        binding: b,
     }
 }
 
@@ -273,24 +275,21 @@ pub fn bits_in(incremental: bool, bits: usize) -> usize
     bits
 }
 
-// What the table and the file say of a column's cells now.
-pub fn plan_for(d: Description, incremental: bool, m: FileChecked, position: usize) -> Plan
-    ensures { λ r. ⌜ r ≡ planFor d incremental m position ⌝ }
+// What the table and the file say of the column's cells now.
+pub fn plan_for(g: Target, m: FileChecked) -> Plan
+    ensures { λ r. ⌜ r ≡ planFor g m ⌝ }
     ensures bounded { λ r. ⌜ (r .offset < 4294967296) × (r .bits ≤ 4294967296) ⌝ }
 {
-    let columns = d.columns;
-    let c = column_at(columns, position);
-    let bindings = d.bindings;
-    let b = binding_at(bindings, position);
-    let sets = m.sets;
-    let s = set_at(sets, b.set as usize);
-    let bits = bits_in(incremental, c.bits as usize);
-    let set = if_standard(incremental, b.set as usize);
-    let offset = if_standard(incremental, b.offset as usize);
-    let per = if_standard(incremental, s.per);
+    let c = g.column;
+    let b = g.binding;
+    let s = m.set;
+    let bits = bits_in(g.incremental, c.bits as usize);
+    let set = if_standard(g.incremental, b.set as usize);
+    let offset = if_standard(g.incremental, b.offset as usize);
+    let per = if_standard(g.incremental, s.per);
     let t = c.datatype;
     Plan {
-        position: position,
+        position: g.position,
         sequence: b.sequence as usize,
         datatype: t.number as usize,
         elements: c.elements as usize,

@@ -1,4 +1,4 @@
--- The check of a manager's file, by its kind. Its refusal, the bucket size and the sets do not depend on the row that is asked for.
+-- The check of a manager's file, by its kind. Its refusal, the bucket size and the set do not depend on the row that is asked for.
 -- Assumes nothing.
 use mathlib.Core.Path.{_≡_, refl, sym, ap, _∙_}
 use mathlib.Core.List.{List}
@@ -46,12 +46,12 @@ cond-size : (b : Bool) (x x′ y : FileChecked) → x .size ≡ x′ .size → c
 cond-size true x x′ y e = e
 cond-size false x x′ y e = refl
 
-cond-sets : (b : Bool) (x x′ y : FileChecked) → x .sets ≡ x′ .sets → cond b x y .sets ≡ cond b x′ y .sets
-cond-sets true x x′ y e = e
-cond-sets false x x′ y e = refl
+cond-set : (b : Bool) (x x′ y : FileChecked) → x .set ≡ x′ .set → cond b x y .set ≡ cond b x′ y .set
+cond-set true x x′ y e = e
+cond-set false x x′ y e = refl
 
 module _ (d : Description) (g : Target) (f : List ℕ) (l : ℕ) where
-  pub file-standard : g .incremental ≡ false → (row : ℕ) → fileOf d g f row l ≡ ofStandard (checkedAs d (g .sequence) f (g .refused) l)
+  pub file-standard : g .incremental ≡ false → (row : ℕ) → fileOf d g f row l ≡ ofStandard (checkedAs d (g .sequence) f (g .refused) l) (g .binding .set)
   unfolding fileOf
   file-standard e row = rw e
 
@@ -78,13 +78,13 @@ module _ (d : Description) (g : Target) (f : List ℕ) (l : ℕ) where
   unfolding fileOf
   row-size row row′ = cond-size (g .incremental) _ _ _ (incremental-size d (g .sequence) f (g .refused) (g .position) row row′)
 
-  row-sets : (row row′ : ℕ) → fileOf d g f row l .sets ≡ fileOf d g f row′ l .sets
+  row-set : (row row′ : ℕ) → fileOf d g f row l .set ≡ fileOf d g f row′ l .set
   unfolding fileOf
-  row-sets row row′ = cond-sets (g .incremental) _ _ _ refl
+  row-set row row′ = cond-set (g .incremental) _ _ _ refl
 
-  pub row-plan : (position row row′ : ℕ) → planFor d (g .incremental) (fileOf d g f row l) position ≡ planFor d (g .incremental) (fileOf d g f row′ l) position
+  pub row-plan : (row row′ : ℕ) → planFor g (fileOf d g f row l) ≡ planFor g (fileOf d g f row′ l)
   unfolding planFor _>>=_
-  row-plan position row row′ = rw (row-size row row′, row-sets row row′)
+  row-plan row row′ = rw (row-size row row′, row-set row row′)
 
   -- a file that is not refused has a manager and a column
   incremental-target : g .incremental ≡ true → (row : ℕ) → fileOf d g f row l .refused ≡ 0 → g .refused ≡ 0

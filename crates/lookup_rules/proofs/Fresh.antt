@@ -30,7 +30,7 @@ abbrev checkedNow : List ℕ → List ℕ → ℕ → ℕ → ℕ → FileChecke
 checkedNow t f c row l = fileOf (describedAs t) (targetNow t c) f row l
 
 abbrev planAt : List ℕ → List ℕ → ℕ → ℕ → ℕ → Plan
-planAt t f c row l = planFor (describedAs t) (targetNow t c .incremental) (checkedNow t f c row l) c
+planAt t f c row l = planFor (targetNow t c) (checkedNow t f c row l)
 
 module _ (t f : List ℕ) (c l : ℕ) where
   abbrev planNow : Plan
@@ -85,7 +85,7 @@ module _ (t f : List ℕ) (row : ℕ) (p : Plan) (l : ℕ) where
   same-refusal = row-refused (describedAs t) (targetNow t (p .position)) f l row 0
 
   same-made : planAt t f (p .position) row l ≡ planNow t f (p .position) l
-  same-made = row-plan (describedAs t) (targetNow t (p .position)) f l (p .position) row 0
+  same-made = row-plan (describedAs t) (targetNow t (p .position)) f l row 0
 
   planned-refused : (w : Wanted) → stagesOf t f (byPlan w row p) l .refused
       ≡ (checkedNow t f (p .position) 0 l .refused ▷ orNo (samePlan p (planNow t f (p .position) l)) 12) ▷ later w

@@ -14,7 +14,6 @@ use Rattle.column_desc.specs.ColumnDesc.{blank}
 use Rattle.table.specs.declared.Description.{Description}
 use Rattle.table.specs.Table.{describedAs}
 use Rattle.cell_map.specs.Map.{Bits}
-use Rattle.standard_text.specs.Index.{noSet}
 use Rattle.lookup_rules.specs.declared.Question.{Question}
 use Rattle.lookup_rules.specs.declared.Target.{Target}
 use Rattle.lookup_rules.specs.declared.FileChecked.{FileChecked}
@@ -55,6 +54,14 @@ module _ (d : Description) (q : Question) where
   unfolding targetOf _>>=_
   target-position = refl
 
+  pub target-binding : targetOf d q .binding ≡ bindingAt d (positionOf q)
+  unfolding targetOf _>>=_
+  target-binding = refl
+
+  pub target-described : targetOf d q .column ≡ getD (d .columns) (positionOf q) blank
+  unfolding targetOf _>>=_
+  target-described = refl
+
   pub target-kind : targetOf d q .incremental ≡ isIncremental (kindWith (d .managers) (d .«manager_count») (targetOf d q .sequence))
   unfolding targetOf _>>=_
   target-kind = refl
@@ -87,11 +94,11 @@ module _ (t f : List ℕ) (q : Question) (l : ℕ) where
   unfolding stagesOf _>>=_
   stages-kind = refl
 
-  pub stages-plan : stagesOf t f q l .plan ≡ planFor (describedAs t) (targetFor .incremental) checkedFor (positionOf q)
-  unfolding stagesOf targetOf _>>=_
+  pub stages-plan : stagesOf t f q l .plan ≡ planFor targetFor checkedFor
+  unfolding stagesOf _>>=_
   stages-plan = refl
 
-  pub stages-set : stagesOf t f q l .set ≡ getD (checkedFor .sets) (stagesOf t f q l .plan .set) noSet
+  pub stages-set : stagesOf t f q l .set ≡ checkedFor .set
   unfolding stagesOf _>>=_
   stages-set = refl
 

@@ -11,6 +11,7 @@ use lib.ListN.{length, getD}
 use borrow.Author.Tests.{eq-eqb}
 use Rattle.bytes_at.specs.Steps.{_>>=_}
 use Rattle.bytes_at.proofs.Stages.{then-left, then-right, or-passed}
+use Rattle.column_desc.specs.declared.Column.{Column}
 use Rattle.column_desc.specs.ColumnDesc.{blank}
 use Rattle.column_set.specs.declared.Kind.{Kind}
 use Rattle.column_set.specs.declared.Kind.the-variants.{Other, Standard, Incremental}
@@ -36,7 +37,7 @@ use Rattle.lookup_rules.proofs.CellAsked.{cell-sequence, cell-column}
 use Rattle.lookup_rules.proofs.WholeBytes.{Even8, eight, times-even}
 use Rattle.lookup_rules.proofs.Described.{described}
 use Rattle.lookup_rules.proofs.Columns.{column-same}
-use Rattle.lookup_rules.proofs.Stages.{answer-refused, targetFor, target-sequence, target-held, stages-plan, seen-passed, passed}
+use Rattle.lookup_rules.proofs.Stages.{answer-refused, targetFor, target-sequence, target-described, target-held, stages-plan, seen-passed, passed}
 use Rattle.lookup_rules.proofs.Places as standard
 use Rattle.lookup_rules.proofs.IncrementalPlaces as incremental
 
@@ -150,7 +151,7 @@ module _ (t f : List ℕ) (l row : ℕ) (a : Asked) (h : answerOf t f (viewed ro
 
   datatype-is : stagesOf t f q l .plan .datatype ≡ getD (describedAs t .columns) (positionOf q) blank .datatype .number
   unfolding planFor _>>=_
-  datatype-is = ap (λ (p : Plan). p .datatype) (stages-plan t f q l)
+  datatype-is = ap (λ (p : Plan). p .datatype) (stages-plan t f q l) ∙ ap (λ (c : Column). c .datatype .number) (target-described (describedAs t) q)
 
   shown-bool : targetFor t f q l .incremental ≡ false → getD (describedAs t .columns) (positionOf q) blank .datatype .number ≡ 0 → ⊥
   shown-bool k = no-bool a _ (rw (k, datatype-is) at (seen-passed t f q l (sym (answer-refused t f q l) ∙ h)))

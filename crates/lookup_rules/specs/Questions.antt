@@ -119,26 +119,26 @@ targetOf d q = do
   position ← positionOf q
   column ← isColumn q (d .«column_count»)
   r1 ← d .refused ▷ orNo column 8
-  own ← bindingAt d position .sequence
-  sequence ← sequenceOf q own
+  b ← bindingAt d position
+  sequence ← sequenceOf q (b .sequence)
   kind ← kindWith (d .managers) (d .«manager_count») sequence
   c ← getD (d .columns) position blank
   placed ← isPlaced q (c .datatype .number)
   held ← isHeld kind placed
   r2 ← r1 ▷ orNo held 8
   incremental ← isIncremental kind
-  record { refused = r2; position = position; sequence = sequence; incremental = incremental }
+  record { refused = r2; position = position; sequence = sequence; incremental = incremental; column = c; binding = b }
 
 -- the check of the manager's file, by its kind
-abbrev pub ofStandard : Checked → FileChecked
-ofStandard m = record { refused = m .refused; size = m .size; sets = m .sets; first = 0 }
+abbrev pub ofStandard : Checked → ℕ → FileChecked
+ofStandard m set = record { refused = m .refused; size = m .size; set = getD (m .sets) set noSet; first = 0 }
 
 abbrev pub ofIncremental : IncrementalChecked → FileChecked
-ofIncremental m = record { refused = m .refused; size = m .size; sets = replicate 16 noSet; first = m .first }
+ofIncremental m = record { refused = m .refused; size = m .size; set = noSet; first = m .first }
 
 unfoldable pub fileOf : Description → Target → List ℕ → ℕ → ℕ → FileChecked
 fileOf d g f row l =
-    let standard = ofStandard (checkedAs d (g .sequence) f (g .refused) l) in
+    let standard = ofStandard (checkedAs d (g .sequence) f (g .refused) l) (g .binding .set) in
     let incremental = ofIncremental (incrementalAs d (g .sequence) f (g .refused) (g .position) row) in
     cond (g .incremental) incremental standard
 
@@ -152,20 +152,17 @@ bitsIn incremental bits = cond incremental (8 * ceil8 bits) bits
 
 -- "a plain record of position, sequence number, data type, element count, cell bits, set, offset, rows per bucket and bucket
 -- size", of the column at a position now
-unfoldable pub planFor : Description → Bool → FileChecked → ℕ → Plan
-planFor d incremental m position = do
-  c ← getD (d .columns) position blank
-  b ← getD (d .bindings) position noBinding
-  s ← getD (m .sets) (b .set) noSet
-  bits ← bitsIn incremental (c .bits)
-  set ← ifStandard incremental (b .set)
-  offset ← ifStandard incremental (b .offset)
-  per ← ifStandard incremental (s .per)
+unfoldable pub planFor : Target → FileChecked → Plan
+planFor g m = do
+  bits ← bitsIn (g .incremental) (g .column .bits)
+  set ← ifStandard (g .incremental) (g .binding .set)
+  offset ← ifStandard (g .incremental) (g .binding .offset)
+  per ← ifStandard (g .incremental) (m .set .per)
   record {
-    position = position;
-    sequence = b .sequence;
-    datatype = c .datatype .number;
-    elements = c .elements;
+    position = g .position;
+    sequence = g .binding .sequence;
+    datatype = g .column .datatype .number;
+    elements = g .column .elements;
     bits = bits;
     set = set;
     offset = offset;
@@ -219,15 +216,14 @@ stagesOf t f q l = do
   g ← targetOf d q
   row ← rowOf q
   m ← fileOf d g f row l
-  p ← planFor d (g .incremental) m (g .position)
-  s ← getD (m .sets) (p .set) noSet
+  p ← planFor g m
   fresh ← isFresh q p
   r1 ← m .refused ▷ orNo fresh 12
   below ← isBelow q (d .rows)
   r2 ← r1 ▷ orNo below 9
   seen ← isSeen q (g .incremental) (p .datatype)
   r3 ← r2 ▷ orNo seen 14
-  record { refused = r3; plan = p; sequence = g .sequence; incremental = g .incremental; set = s; first = m .first }
+  record { refused = r3; plan = p; sequence = g .sequence; incremental = g .incremental; set = m .set; first = m .first }
 
 -- the place of a cell in the file of the manager with a sequence number, by the manager's kind
 unfoldable pub placeIn : Description → Bool → ℕ → List ℕ → ℕ → ℕ → Bits

@@ -1,6 +1,8 @@
 // The questions File check, Plan, Place and View (document 01, "The questions"), as definitions over the bytes of both files:
 // `specs/`. The code that answers them is in `lookup`.
 
+use column_desc::Column;
+use column_set::Binding;
 use standard_text::Set;
 
 // A prepared plan: nine numbers in document 01's order. `datatype` is the data type's number, `per` the rows per bucket.
@@ -33,20 +35,23 @@ pub enum Asked {
     Planned(Plan),
 }
 
-// The column and the manager that a question is about, whether that is an IncrementalStMan, and the refusal so far.
+// The column and the manager that a question is about: what the table says of the column and where it is kept, the manager's sequence
+// number, whether that is an IncrementalStMan, and the refusal so far.
 pub struct Target {
     pub refused: usize,
     pub position: usize,
     pub sequence: usize,
     pub incremental: bool,
+    pub column: Column,
+    pub binding: Binding,
 }
 
-// What the check of the manager's file tells: the bucket size; of a StandardStMan file where its sets stand in the index text,
-// of an IncrementalStMan file where the cell that is asked for begins. Zeros and the number where it is refused.
+// What the check of the manager's file tells: the bucket size; of a StandardStMan file where the column's set stands in the index
+// text, of an IncrementalStMan file where the cell that is asked for begins. Zeros and the number where it is refused.
 pub struct FileChecked {
     pub refused: usize,
     pub size: usize,
-    pub sets: [Set; 16],
+    pub set: Set,
     pub first: usize,
 }
 

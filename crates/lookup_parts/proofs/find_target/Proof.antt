@@ -1,8 +1,7 @@
 -- `lookup_parts::find_target` meets its contract: its calls compose as the definition says.
 use borrow.Author.Needs.{needs}
-use mathlib.Core.Path.{refl, ap}
+use mathlib.Core.Path.{refl}
 use Rattle.bytes_at.proofs.Stepped.{via, free}
-use Rattle.column_set.specs.declared.Binding.{Binding}
 use Rattle.lookup_rules.specs.Questions.{targetOf}
 use Rattle.lookup_parts.proofs.find_target.Statement.{statement}
 use Rattle.lookup_parts.proofs.find_target.Tie as tie
@@ -13,7 +12,7 @@ returns c =
     via _ (c .before .before .before .before .before .before .before .before .before .before .before .before .before .before .before .before .position-of .ensures)
     (via _ (c .before .before .before .before .before .before .before .before .before .before .before .before .before .before .before .is-column .ensures)
     (via _ (c .before .before .before .before .before .before .before .before .before .before .before .before .before .before .stage .ensures)
-    (via _ (ap (λ (b : Binding). b .sequence) (c .before .before .before .before .before .before .before .before .before .before .before .before .binding-at .ensures))
+    (via _ (c .before .before .before .before .before .before .before .before .before .before .before .before .binding-at .ensures)
     (via _ (c .before .before .before .before .before .before .before .before .before .before .sequence-of .ensures)
     (via _ (c .before .before .before .before .before .before .before .before .kind-with .ensures)
     (via _ (c .before .before .before .before .before .before .column-at .ensures)

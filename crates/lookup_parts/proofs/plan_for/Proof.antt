@@ -10,14 +10,11 @@ use Rattle.lookup_parts.proofs.plan_for.Tie as tie
 returns : tie.Need-returns
 unfolding planFor
 returns c = (
-  via _ (c .before .before .before .before .before .before .before .before .before .before .before .before .before .before .before .before .column-at .ensures)
-      (via _ (c .before .before .before .before .before .before .before .before .before .before .before .before .before .before .binding-at .ensures)
-      (via _ (c .before .before .before .before .before .before .before .before .before .before .before .set-at .ensures)
-      (via _ (c .before .before .before .before .before .before .before .before .before .bits-in .ensures .0)
+  via _ (c .before .before .before .before .before .before .before .before .before .bits-in .ensures .0)
       (via _ (c .before .before .before .before .before .before .before .if-standard .ensures .0)
       (via _ (c .before .before .before .before .before .if-standard2 .ensures .0)
       (via _ (c .before .before .before .before .if-standard3 .ensures .0)
-      refl)))))),
+      refl))),
   (omega (arith, c .before .before .before .before .before .if-standard2 .ensures .1), c .before .before .before .before .before .before .before .before .before .bits-in .ensures .1),
 )
 
@@ -25,10 +22,6 @@ pub plan-for-spec : {M : Type 1} → statement M
 plan-for-spec =
     tie.close
     (tie.spec
-    free
-    free
-    (λ c. search needs)
-    free
     (λ c. search needs)
     (λ c κs. search needs)
     (λ c. search needs)
