@@ -29,15 +29,17 @@ fn compare(what: &str, calls: u32, mut library: impl FnMut(), mut model: impl Fn
         theirs = theirs.min(round(&mut model, calls));
     }
     println!(
-        "{what:<60} {:>9.3} us {:>9.3} us  {:>5.2}",
+        "{what:<60} {:>9.3} us {:>9.3} us  {:>5.2} {:>11.0}",
         ours.as_secs_f64() * 1e6,
         theirs.as_secs_f64() * 1e6,
-        ours.as_secs_f64() / theirs.as_secs_f64()
+        ours.as_secs_f64() / theirs.as_secs_f64(),
+        1.0 / ours.as_secs_f64()
     );
 }
 
+/// The last column is the library's calls per second.
 fn title(question: &str) {
-    println!("{question:<60} {:>12} {:>12}  {:>5}", "library", "model", "ratio");
+    println!("{question:<60} {:>12} {:>12}  {:>5} {:>11}", "library", "model", "ratio", "calls/s");
 }
 
 fn description(what: &str, table: &[u8], calls: u32) {
@@ -47,6 +49,20 @@ fn description(what: &str, table: &[u8], calls: u32) {
         calls,
         || _ = black_box(library::description(black_box(table))),
         || _ = black_box(model::describe(black_box(table))),
+    );
+}
+
+/// The last column of a table, by its name.
+fn column(what: &str, table: &[u8], calls: u32) {
+    let described = model::describe(table).expect("an accepted table");
+    let name = &described.columns[described.columns.len() - 1].name;
+    let (ours, theirs) = (library::column_by_name(table, name), model::column(table, name));
+    assert_eq!(ours.ok(), theirs.ok().map(|position| position as u64), "{what}");
+    compare(
+        what,
+        calls,
+        || _ = black_box(library::column_by_name(black_box(table), name)),
+        || _ = black_box(model::column(black_box(table), name)),
     );
 }
 
@@ -87,6 +103,53 @@ impl Files {
         );
     }
 
+    fn plan(&self) {
+        let Self { table, file, column, .. } = self;
+        let (mut room, mut other) = (vec![0; self.room], vec![0; self.room]);
+        let (ours, theirs) = (library::plan(table, file, *column, &mut room), model::plan(table, file, *column, &mut other));
+        assert_eq!(ours.ok().map(|plan| plan[6]), theirs.ok().map(|plan| plan.offset), "{}", self.what);
+        compare(
+            self.what,
+            self.calls,
+            || _ = black_box(library::plan(black_box(table), black_box(file), *column, &mut room)),
+            || _ = black_box(model::plan(black_box(table), black_box(file), *column, &mut other)),
+        );
+    }
+
+    /// Place of the last row by a prepared plan.
+    fn place_planned(&self) {
+        let Self { table, file, column, rows, .. } = self;
+        let (mut room, mut other) = (vec![0; self.room], vec![0; self.room]);
+        let plan = library::plan(table, file, *column, &mut room).expect("a plan");
+        let expected = model::plan(table, file, *column, &mut other).expect("a plan");
+        let row = rows - 1;
+        let ours = library::place_planned(table, file, row, &plan, &mut room);
+        let theirs = model::place_by_plan(table, file, row, &expected, &mut other);
+        assert_eq!(ours.ok().map(|[first, count]| (first, count)), theirs.ok(), "{}", self.what);
+        compare(
+            self.what,
+            self.calls,
+            || _ = black_box(library::place_planned(black_box(table), black_box(file), row, &plan, &mut room)),
+            || _ = black_box(model::place_by_plan(black_box(table), black_box(file), row, &expected, &mut other)),
+        );
+    }
+
+    /// View of the last row.
+    fn view(&self) {
+        let Self { table, file, column, rows, .. } = self;
+        let (mut room, mut other) = (vec![0; self.room], vec![0; self.room]);
+        let row = rows - 1;
+        let ours = library::view(table, file, row, *column, &mut room);
+        let theirs = model::view(table, file, row, *column, &mut other);
+        assert_eq!(ours.ok().map(|[_, length]| length), theirs.ok().map(|part| part.len() as u64), "{}", self.what);
+        compare(
+            self.what,
+            self.calls,
+            || _ = black_box(library::view(black_box(table), black_box(file), row, *column, &mut room)),
+            || _ = black_box(model::view(black_box(table), black_box(file), row, *column, &mut other)),
+        );
+    }
+
     fn place(&self) {
         let Self { table, file, column, rows, .. } = self;
         let (mut room, mut other) = (vec![0; self.room], vec![0; self.room]);
@@ -118,7 +181,11 @@ fn main() {
     title("Description of");
     description("the small table", &read("samples/small/table.dat"), 2_000);
     description("the table with arrays", &read("samples/arrays/table.dat"), 500);
-    description("a table of 64 columns", &large_table(), 100);
+    let large = large_table();
+    description("a table of 64 columns", &large, 100);
+    title("Column by name, the last of");
+    column("the small table", &read("samples/small/table.dat"), 2_000);
+    column("a table of 64 columns", &large, 100);
 
     let small = writer::samples::small_file();
     let files = [
@@ -130,8 +197,14 @@ fn main() {
     ];
     title("File check of");
     files.iter().for_each(Files::check);
+    title("Plan of a column in");
+    files.iter().for_each(Files::plan);
     title("Place in");
     files.iter().for_each(Files::place);
+    title("Place by a plan in");
+    files.iter().for_each(Files::place_planned);
+    title("View in");
+    files.iter().for_each(Files::view);
 }
 
 /// The first accepted table of the writer's large ones that has 64 columns and is near 65,536 bytes.
