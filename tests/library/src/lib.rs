@@ -156,90 +156,46 @@ pub fn plan(table: &[u8], file: &[u8], position: u64, room: &mut [u8]) -> Result
     })
 }
 
-/// A cell's first bit and its bit count.
-pub fn place(table: &[u8], file: &[u8], row: u64, position: u64, room: &mut [u8]) -> Result<[u64; CELL], u64> {
+/// A question about a cell: table, file, row, then the column's position or a plan, the room, and the answer's numbers.
+type ByPosition =
+    unsafe extern "C" fn(*const u8, usize, *const u8, usize, u64, u64, *mut u8, usize, *mut u64, usize) -> u64;
+type ByPlan =
+    unsafe extern "C" fn(*const u8, usize, *const u8, usize, u64, *const u64, usize, *mut u8, usize, *mut u64, usize) -> u64;
+
+type Cell = Result<[u64; CELL], u64>;
+
+fn by_position(ask: ByPosition, table: &[u8], file: &[u8], row: u64, position: u64, room: &mut [u8]) -> Cell {
+    let (t, f, r) = (table.as_ptr(), file.as_ptr(), room.as_mut_ptr());
     answer(|out| unsafe {
-        hv_place(
-            table.as_ptr(),
-            table.len(),
-            file.as_ptr(),
-            file.len(),
-            row,
-            position,
-            room.as_mut_ptr(),
-            room.len(),
-            out.as_mut_ptr(),
-            out.len(),
-        )
+        ask(t, table.len(), f, file.len(), row, position, r, room.len(), out.as_mut_ptr(), out.len())
     })
 }
 
-/// The same for the plan's column.
-pub fn place_planned(
-    table: &[u8],
-    file: &[u8],
-    row: u64,
-    plan: &[u64; PLAN],
-    room: &mut [u8],
-) -> Result<[u64; CELL], u64> {
+fn by_plan(ask: ByPlan, table: &[u8], file: &[u8], row: u64, plan: &[u64; PLAN], room: &mut [u8]) -> Cell {
+    let (t, f, p, r) = (table.as_ptr(), file.as_ptr(), plan.as_ptr(), room.as_mut_ptr());
     answer(|out| unsafe {
-        hv_place_planned(
-            table.as_ptr(),
-            table.len(),
-            file.as_ptr(),
-            file.len(),
-            row,
-            plan.as_ptr(),
-            plan.len(),
-            room.as_mut_ptr(),
-            room.len(),
-            out.as_mut_ptr(),
-            out.len(),
-        )
+        ask(t, table.len(), f, file.len(), row, p, plan.len(), r, room.len(), out.as_mut_ptr(), out.len())
     })
+}
+
+/// A cell's first bit and its bit count.
+pub fn place(table: &[u8], file: &[u8], row: u64, position: u64, room: &mut [u8]) -> Cell {
+    by_position(hv_place, table, file, row, position, room)
+}
+
+/// The same for the plan's column.
+pub fn place_planned(table: &[u8], file: &[u8], row: u64, plan: &[u64; PLAN], room: &mut [u8]) -> Cell {
+    by_plan(hv_place_planned, table, file, row, plan, room)
 }
 
 /// Where the part of the file that holds a cell starts, and its length in bytes.
-pub fn view(table: &[u8], file: &[u8], row: u64, position: u64, room: &mut [u8]) -> Result<[u64; CELL], u64> {
-    answer(|out| unsafe {
-        hv_view(
-            table.as_ptr(),
-            table.len(),
-            file.as_ptr(),
-            file.len(),
-            row,
-            position,
-            room.as_mut_ptr(),
-            room.len(),
-            out.as_mut_ptr(),
-            out.len(),
-        )
-    })
+pub fn view(table: &[u8], file: &[u8], row: u64, position: u64, room: &mut [u8]) -> Cell {
+    by_position(hv_view, table, file, row, position, room)
 }
 
 /// The same for the plan's column.
-pub fn view_planned(
-    table: &[u8],
-    file: &[u8],
-    row: u64,
-    plan: &[u64; PLAN],
-    room: &mut [u8],
-) -> Result<[u64; CELL], u64> {
-    answer(|out| unsafe {
-        hv_view_planned(
-            table.as_ptr(),
-            table.len(),
-            file.as_ptr(),
-            file.len(),
-            row,
-            plan.as_ptr(),
-            plan.len(),
-            room.as_mut_ptr(),
-            room.len(),
-            out.as_mut_ptr(),
-            out.len(),
-        )
-    })
+pub fn view_planned(table: &[u8], file: &[u8], row: u64, plan: &[u64; PLAN], room: &mut [u8]) -> Cell {
+    by_plan(hv_view_planned, table, file, row, plan, room)
 }
 
 #[cfg(test)]
@@ -283,8 +239,7 @@ mod tests {
         assert_eq!((check(&[], &[], 0, &mut room), room), (Err(1), [0; 5]));
         room = [7; 5];
         assert_eq!((plan(&[], &[], 0, &mut room), room), (Err(1), [0; 5]));
-        type Cell = fn(&mut [u8]) -> Result<[u64; CELL], u64>;
-        let cells: [Cell; 4] = [
+        let cells: [fn(&mut [u8]) -> Cell; 4] = [
             |room| place(&[], &[], 0, 0, room),
             |room| place_planned(&[], &[], 0, &[0; PLAN], room),
             |room| view(&[], &[], 0, 0, room),
