@@ -42,6 +42,8 @@ use Rattle.lookup_rules.proofs.CellAsked.{cell-sequence, cell-column, cell-row,
 use Rattle.lookup_rules.proofs.Columns.{column-kept, column-same}
 use Rattle.lookup_rules.proofs.Described.{described}
 use Rattle.lookup_rules.proofs.Files.{file-standard, file-incremental, standard-refused, incremental-refused, target-passed}
+use Rattle.lookup_rules.proofs.Places.{place-standard}
+use Rattle.lookup_rules.proofs.IncrementalPlaces.{place-there}
 use Rattle.lookup_rules.proofs.Stages.{check-of, row-passed, stages-sequence, stages-kind, target-column, target-sequence, target-position, target-binding, target-described, stages-plan, stages-set, stages-first}
 use Rattle.lookup.specs.Lookup.{Findable, cellBit, answerWith}
 use Rattle.lookup.proofs.Placing.{sets-told, size-told, set-known, set-same, set-covered, set-inside, size-most}
@@ -256,15 +258,6 @@ answered-same s {p} {p′} h = elim (ℕ-discrete (s .refused) 0) [
   | no n ↦ rw (ne-eqb (s .refused) 0 n)
 ]
 
-module _ (d : Description) (sequence : ℕ) (f : List ℕ) (row c : ℕ) where
-  place-here : placeIn d false sequence f row c ≡ placeOf (mapOf d sequence f) row c
-  unfolding placeIn
-  place-here = refl
-
-  place-there : placeIn d true sequence f row c ≡ incrementalPlace d sequence f c row
-  unfolding placeIn
-  place-there = refl
-
 module _ (t f : List ℕ) (q : Question) (l : ℕ) {s : Staged} {y : List ℕ} (e : s ≡ stagesOf t f q l)
     (h : s .refused ≡ 0 → s .incremental ≡ false → y ≡ padded l (textOf f (headerAt f (describedAs t .big)))) where
   -- the place of the cell
@@ -282,11 +275,11 @@ module _ (t f : List ℕ) (q : Question) (l : ℕ) {s : Staged} {y : List ℕ} (
 
   found-here : s .refused ≡ 0 → T (asksCell q) → s .incremental ≡ false → cellBit y s q ≡ place .first
   found-here z w k =
-      cell-here y s q z w k ∙ rw (k, same-sequence, place-here (describedAs t) _ f (rowOf q) (positionOf q)) (rw e (first-is t f q l (rw e at z) w (kind k) (h z k)))
+      cell-here y s q z w k ∙ rw (k, same-sequence, place-standard (describedAs t) _ f (rowOf q) (positionOf q)) (rw e (first-is t f q l (rw e at z) w (kind k) (h z k)))
 
   counted-here : s .refused ≡ 0 → T (asksCell q) → s .incremental ≡ false → s .plan .bits ≡ place .count
   counted-here z w k =
-      rw (k, same-sequence, place-here (describedAs t) _ f (rowOf q) (positionOf q)) (rw e (bits-is t f q l (rw e at z) w (kind k)))
+      rw (k, same-sequence, place-standard (describedAs t) _ f (rowOf q) (positionOf q)) (rw e (bits-is t f q l (rw e at z) w (kind k)))
 
   found-there : s .refused ≡ 0 → T (asksCell q) → s .incremental ≡ true → cellBit y s q ≡ place .first
   found-there z w k =

@@ -18,16 +18,13 @@ use Rattle.standard_text.specs.Index.{noSet, indexAt, SetInside}
 use Rattle.standard_text.proofs.IndexLaws.{index-inside}
 use Rattle.standard_columns.proofs.Facts.{sets-length, sets-at}
 use Rattle.standard_text.proofs.HeaderLaws.{header-bounds}
+use Rattle.lookup_rules.proofs.Places.{map-fits}
 use Rattle.standard_rules.specs.Rules.{textOf, setOf, mapOf, refusalOf, checkedAs}
 
 module _ (d : Description) (sequence : ℕ) (f : List ℕ) (refused l : ℕ) where
   index-passed : refusalOf d sequence f refused l ≡ 0 → indexAt (textOf f (headerAt f (d .big))) (headerAt f (d .big) .sets) .refused ≡ 0
   unfolding refusalOf
   index-passed z = search (then-left, then-right) depth 9
-
-  map-fits : refusalOf d sequence f refused l ≡ 0 → T (fits (mapOf d sequence f))
-  unfolding refusalOf
-  map-fits z = or-passed (fits (mapOf d sequence f)) 10 (search (then-left, then-right) depth 9)
 
   -- the sets and the bucket size that the check tells are the file's
   pub sets-told : refusalOf d sequence f refused l ≡ 0
@@ -45,7 +42,7 @@ module _ (d : Description) (sequence : ℕ) (f : List ℕ) (refused l : ℕ) whe
 
   -- the set of a column that is kept is one of them
   pub set-known : refusalOf d sequence f refused l ≡ 0 → (c : ℕ) → Kept (mapOf d sequence f) c → columnAt (mapOf d sequence f) c .set < headerAt f (d .big) .sets
-  set-known z c k = rw (← map-sets) (accepted (mapOf d sequence f) (map-fits z) .set-known c k)
+  set-known z c k = rw (← map-sets) (accepted (mapOf d sequence f) (map-fits d sequence f refused l z) .set-known c k)
 
   -- the map's set is the text's
   pub set-same : (k : ℕ) → k < headerAt f (d .big) .sets
@@ -56,7 +53,7 @@ module _ (d : Description) (sequence : ℕ) (f : List ℕ) (refused l : ℕ) whe
   -- and its last rows cover the table's rows
   pub set-covered : refusalOf d sequence f refused l ≡ 0 → (k : ℕ) → k < headerAt f (d .big) .sets
       → T (covers (mapOf d sequence f .rows) (setAt (mapOf d sequence f) k .rowsPer) 0 (setAt (mapOf d sequence f) k .lasts))
-  set-covered z k h = set-covers (mapOf d sequence f) (map-fits z) k (rw map-sets h)
+  set-covered z k h = set-covers (mapOf d sequence f) (map-fits d sequence f refused l z) k (rw map-sets h)
 
   -- its lists lie in the text
   pub set-inside : refusalOf d sequence f refused l ≡ 0 → (k : ℕ) → k < headerAt f (d .big) .sets

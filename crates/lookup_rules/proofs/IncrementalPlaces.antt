@@ -33,7 +33,7 @@ no-string (PlacePlanned row p) datatype w h e = rw (eq-eqb datatype 11 e) at h
 no-string (View row c) datatype w h e = rw (eq-eqb datatype 11 e) at h
 no-string (ViewPlanned row p) datatype w h e = rw (eq-eqb datatype 11 e) at h
 
-place-there : (d : Description) (sequence : ℕ) (f : List ℕ) (row c : ℕ) → placeIn d true sequence f row c ≡ placeOf d sequence f c row
+pub place-there : (d : Description) (sequence : ℕ) (f : List ℕ) (row c : ℕ) → placeIn d true sequence f row c ≡ placeOf d sequence f c row
 unfolding placeIn
 place-there d sequence f row c = refl
 

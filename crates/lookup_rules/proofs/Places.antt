@@ -26,11 +26,11 @@ use Rattle.lookup_rules.proofs.Columns.{column-kept, map-rows}
 use Rattle.lookup_rules.proofs.Files.{standard-refused}
 use Rattle.lookup_rules.proofs.Stages.{targetFor, target-sequence, target-kind, passed}
 
-map-fits : (d : Description) (sequence : ℕ) (f : List ℕ) (refused l : ℕ) → refusalOf d sequence f refused l ≡ 0 → T (fits (mapOf d sequence f))
+pub map-fits : (d : Description) (sequence : ℕ) (f : List ℕ) (refused l : ℕ) → refusalOf d sequence f refused l ≡ 0 → T (fits (mapOf d sequence f))
 unfolding refusalOf
 map-fits d sequence f refused l h = or-passed (fits (mapOf d sequence f)) 10 (search (then-left, then-right) depth 9)
 
-place-standard : (d : Description) (sequence : ℕ) (f : List ℕ) (row c : ℕ) → placeIn d false sequence f row c ≡ placeOf (mapOf d sequence f) row c
+pub place-standard : (d : Description) (sequence : ℕ) (f : List ℕ) (row c : ℕ) → placeIn d false sequence f row c ≡ placeOf (mapOf d sequence f) row c
 unfolding placeIn
 place-standard d sequence f row c = refl
 

@@ -10,7 +10,7 @@ use Rattle.lookup_rules.specs.declared.Asked.{Asked}
 use Rattle.lookup_rules.specs.declared.Answer.{Answer}
 use Rattle.lookup_rules.specs.declared.Placed.{Placed}
 use Rattle.lookup_rules.specs.declared.Placed.the-variants.{At, Refused}
-use Rattle.lookup_rules.specs.Questions.{answerOf, placedOf}
+use Rattle.lookup_rules.specs.Questions.{answerOf, roomAfter, placedOf}
 use Rattle.lookup_rules.specs.Demand.{question, bitsOf}
 use Rattle.lookup_rules.proofs.Places.{places}
 use Rattle.lookup_rules.proofs.IncrementalPlaces.{places-there}
@@ -66,8 +66,10 @@ carried-there t f l row a e = record {
 }
 
 -- `place_by`: an arm's call is the question that is asked
-pub by-arm : (t f : List ℕ) (l row : ℕ) (a b : Asked) {p : Placed} → a ≡ b → p ≡ placedOf (answerOf t f (question row b) l)
-    → (p ≡ placedOf (answerOf t f (question row a) l)) × PlacedThere t f row a p
-by-arm t f l row a b {p} e h =
-    let x : p ≡ placedOf (answerOf t f (question row a) l) = h ∙ ap (λ (k : Asked). placedOf (answerOf t f (question row k) l)) (sym e) in
-    (x, carried-there t f l row a x)
+pub by-arm : (t f : List ℕ) (l row : ℕ) (a b : Asked) {p : Placed} {x : List ℕ} → a ≡ b
+    → (p ≡ placedOf (answerOf t f (question row b) l)) × (x ≡ roomAfter t f (question row b) l)
+    → ((p ≡ placedOf (answerOf t f (question row a) l)) × (x ≡ roomAfter t f (question row a) l)) × PlacedThere t f row a p
+by-arm t f l row a b {p} {x} e h =
+    let y : p ≡ placedOf (answerOf t f (question row a) l) = h .0 ∙ ap (λ (k : Asked). placedOf (answerOf t f (question row k) l)) (sym e) in
+    let z : x ≡ roomAfter t f (question row a) l = h .1 ∙ ap (λ (k : Asked). roomAfter t f (question row k) l) (sym e) in
+    ((y, z), carried-there t f l row a y)

@@ -13,4 +13,4 @@ two-places-spec =
     free
     (λ c. search needs)
     (λ c. search needs)
-    (λ c. carried _ _ _ _ _ _ _ _ (c .before .before .before .before .before .before .place-by .ensures .0) (c .before .before .place-by2 .ensures .0)))
+    (λ c. (carried _ _ _ _ _ _ _ _ (c .before .before .before .before .before .before .place-by .ensures .0 .0) (c .before .before .place-by2 .ensures .0 .0), (c .before .before .before .before .before .before .place-by .ensures .0, c .before .before .place-by2 .ensures .0))))
