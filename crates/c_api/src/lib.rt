@@ -3,126 +3,27 @@
 // nothing is written, the room included.
 ghost use mathlib.Core.Path.{_≡_};
 ghost use mathlib.Core.List.{[], _∷_};
-ghost use Prim.Native.Nat.{_≤_};
 ghost use lib.ListN.{length};
 ghost use Rattle.table.specs.Table.{describedAs, positionOf};
 ghost use Rattle.lookup_rules.specs.Questions.{answerOf, roomAfter};
-ghost use Rattle.c_api.specs.Answers.{
+ghost use Rattle.c_values.specs.Answers.{
   orShort,
   written,
   roomLeft,
-  flagOf,
-  kindNumber,
   summaryOf,
   columnRefusal,
   managerRefusal,
-  pickedColumn,
-  pickedBinding,
   columnNumbers,
-  pickedManager,
   managerNumbers,
   positionRefusal,
   positionNumber,
-  missing,
   planNumbers,
   planFrom,
   byPlan,
   placeNumbers,
   viewNumbers,
 };
-use column_desc::Column;
-use column_set::Binding;
-use column_set::Kind;
-use column_set::Manager;
-use lookup_rules::Plan;
 use lookup_rules::Question;
-use table::Position;
-
-fn flag(b: bool) -> u64
-    ensures { λ r. ⌜ r ≡ flagOf b ⌝ }
-{
-    if b {
-        return 1;
-    }
-    0
-}
-
-fn kind_number(kind: Kind) -> u64
-    ensures { λ r. ⌜ r ≡ kindNumber kind ⌝ }
-{
-    match kind {
-        Kind::Other => 0,
-        Kind::Standard => 1,
-        Kind::Incremental => 2,
-    }
-}
-
-// The refusal so far, or 8 where there is no such position.
-fn refusal(refused: usize, position: u64, count: usize) -> u64
-    ensures { λ r. ⌜ r ≡ missing refused position count ⌝ }
-{
-    if refused != 0 {
-        return refused as u64;
-    }
-    if position < count as u64 {
-        return 0;
-    }
-    8
-}
-
-// The column at a position; zeros where there is none.
-fn pick_column(columns: [Column; 64], count: usize, position: u64) -> Column
-    requires { ⌜ count ≤ 64 ⌝ }
-    ensures { λ r. ⌜ r ≡ pickedColumn columns count position ⌝ }
-{
-    if position < count as u64 {
-        let at = position as usize;
-        let one = columns[at];
-        return one;
-    }
-    column_desc::no_column()
-}
-
-// The binding of the column at a position; zeros where there is none.
-fn pick_binding(bindings: [Binding; 64], count: usize, position: u64) -> Binding
-    requires { ⌜ count ≤ 64 ⌝ }
-    ensures { λ r. ⌜ r ≡ pickedBinding bindings count position ⌝ }
-{
-    if position < count as u64 {
-        let at = position as usize;
-        let one = bindings[at];
-        return one;
-    }
-    column_set::no_binding()
-}
-
-// The manager at a position; zeros where there is none.
-fn pick_manager(managers: [Manager; 16], count: usize, position: u64) -> Manager
-    requires { ⌜ count ≤ 16 ⌝ }
-    ensures { λ r. ⌜ r ≡ pickedManager managers count position ⌝ }
-{
-    if position < count as u64 {
-        let at = position as usize;
-        let one = managers[at];
-        return one;
-    }
-    column_set::no_manager()
-}
-
-// Writes the values into `out` and gives the number; 255, and nothing is written, where `out` is too short for them.
-fn answer(number: u64, values: &[u64], out: &mut [u64]) -> u64
-    ensures { λ r. ⌜ (r ≡ orShort (now (values .entry)) (now (out .entry)) number) × (now (out .exit) ≡ written (now (values .entry)) (now (out .entry))) ⌝ }
-{
-    if out.len() < values.len() {
-        return 255;
-    }
-    let mut i = 0;
-    while i < values.len() {
-        out[i] = values[i];
-        i += 1;
-    }
-    number
-}
 
 // Row count, byte order (1: big endian), number of columns, number of managers: 4 numbers.
 #[no_mangle]
@@ -130,14 +31,14 @@ pub extern "C" fn hv_description(table: &[u8], out: &mut [u64]) -> u64
     ensures { λ r. ⌜ (r ≡ orShort (summaryOf (describedAs (now (table .entry)))) (now (out .entry)) (describedAs (now (table .entry)) .refused)) × (now (out .exit) ≡ written (summaryOf (describedAs (now (table .entry)))) (now (out .entry))) ⌝ }
 {
     let d = table::describe(table);
-    let big = flag(d.big);
+    let big = c_values::flag(d.big);
     let values = [
         d.rows as u64,
         big,
         d.column_count as u64,
         d.manager_count as u64,
     ];
-    answer(d.refused as u64, &values, out)
+    c_values::answer(d.refused as u64, &values, out)
 }
 
 // A column, 11 numbers: where its name begins in table.dat and how long it is, data type number, 1 for an array, options,
@@ -150,10 +51,10 @@ pub extern "C" fn hv_column(table: &[u8], position: u64, out: &mut [u64]) -> u64
     let count = d.column_count;
     let columns = d.columns;
     let bindings = d.bindings;
-    let c = pick_column(columns, count, position);
-    let b = pick_binding(bindings, count, position);
-    let refused = refusal(d.refused, position, count);
-    let array = flag(c.array);
+    let c = c_values::pick_column(columns, count, position);
+    let b = c_values::pick_binding(bindings, count, position);
+    let refused = c_values::refusal(d.refused, position, count);
+    let array = c_values::flag(c.array);
     let t = c.datatype;
     let values = [
         c.start as u64,
@@ -168,7 +69,7 @@ pub extern "C" fn hv_column(table: &[u8], position: u64, out: &mut [u64]) -> u64
         b.set as u64,
         b.offset as u64,
     ];
-    answer(refused, &values, out)
+    c_values::answer(refused, &values, out)
 }
 
 // A manager, 4 numbers: sequence number, kind (1 StandardStMan, 2 IncrementalStMan, 0 any other), where its name begins in
@@ -180,30 +81,12 @@ pub extern "C" fn hv_manager(table: &[u8], index: u64, out: &mut [u64]) -> u64
     let d = table::describe(table);
     let count = d.manager_count;
     let managers = d.managers;
-    let m = pick_manager(managers, count, index);
-    let refused = refusal(d.refused, index, count);
+    let m = c_values::pick_manager(managers, count, index);
+    let refused = c_values::refusal(d.refused, index, count);
     let kind = m.kind;
-    let number = kind_number(kind);
+    let number = c_values::kind_number(kind);
     let values = [m.number as u64, number, m.start as u64, m.len as u64];
-    answer(refused, &values, out)
-}
-
-fn position_refusal(p: Position) -> u64
-    ensures { λ r. ⌜ r ≡ positionRefusal p ⌝ }
-{
-    match p {
-        Position::At(_) => 0,
-        Position::Refused(n) => n as u64,
-    }
-}
-
-fn position_number(p: Position) -> u64
-    ensures { λ r. ⌜ r ≡ positionNumber p ⌝ }
-{
-    match p {
-        Position::At(k) => k as u64,
-        Position::Refused(_) => 0,
-    }
+    c_values::answer(refused, &values, out)
 }
 
 // The position of the column with a name: 1 number. No such column: 8.
@@ -212,9 +95,9 @@ pub extern "C" fn hv_column_by_name(table: &[u8], name: &[u8], out: &mut [u64]) 
     ensures { λ r. ⌜ (r ≡ orShort (positionNumber (positionOf (now (table .entry)) (now (name .entry))) ∷ []) (now (out .entry)) (positionRefusal (positionOf (now (table .entry)) (now (name .entry))))) × (now (out .exit) ≡ written (positionNumber (positionOf (now (table .entry)) (now (name .entry))) ∷ []) (now (out .entry))) ⌝ }
 {
     let p = table::column_by_name(table, name);
-    let refused = position_refusal(p);
-    let values = [position_number(p)];
-    answer(refused, &values, out)
+    let refused = c_values::position_refusal(p);
+    let values = [c_values::position_number(p)];
+    c_values::answer(refused, &values, out)
 }
 
 // File check: the refusal alone.
@@ -253,7 +136,7 @@ pub extern "C" fn hv_plan(
         p.per as u64,
         p.size as u64,
     ];
-    answer(a.refused as u64, &values, out)
+    c_values::answer(a.refused as u64, &values, out)
 }
 
 // A place: first bit and bit count.
@@ -265,7 +148,7 @@ fn answer_place(table: &[u8], file: &[u8], q: Question, room: &mut [u8], out: &m
     }
     let a = lookup::ask(table, file, q, room);
     let values = [a.first as u64, a.count as u64];
-    answer(a.refused as u64, &values, out)
+    c_values::answer(a.refused as u64, &values, out)
 }
 
 // A view: the start and the length of the cell's part of the file, in bytes.
@@ -277,25 +160,7 @@ fn answer_view(table: &[u8], file: &[u8], q: Question, room: &mut [u8], out: &mu
     }
     let a = lookup::ask(table, file, q, room);
     let values = [(a.first / 8) as u64, (a.count / 8) as u64];
-    answer(a.refused as u64, &values, out)
-}
-
-// The first nine numbers as a plan.
-fn plan_from(numbers: &[u64]) -> Plan
-    requires { ⌜ 9 ≤ length (now numbers) ⌝ }
-    ensures { λ r. ⌜ r ≡ planFrom (now (numbers .entry)) ⌝ }
-{
-    Plan {
-        position: numbers[0] as usize,
-        sequence: numbers[1] as usize,
-        datatype: numbers[2] as usize,
-        elements: numbers[3] as usize,
-        bits: numbers[4] as usize,
-        set: numbers[5] as usize,
-        offset: numbers[6] as usize,
-        per: numbers[7] as usize,
-        size: numbers[8] as usize,
-    }
+    c_values::answer(a.refused as u64, &values, out)
 }
 
 // Place, of a row and a position: first bit and bit count, 2 numbers.
@@ -334,7 +199,7 @@ pub extern "C" fn hv_place_planned(
     if plan.len() < 9 {
         return 255;
     }
-    let p = plan_from(plan);
+    let p = c_values::plan_from(plan);
     answer_place(
         table,
         file,
@@ -380,7 +245,7 @@ pub extern "C" fn hv_view_planned(
     if plan.len() < 9 {
         return 255;
     }
-    let p = plan_from(plan);
+    let p = c_values::plan_from(plan);
     answer_view(
         table,
         file,

@@ -1,11 +1,11 @@
--- `c_api::pick_column` meets its contract: a case for each way out.
+-- `c_values::pick_column` meets its contract: a case for each way out.
 use borrow.Author.Needs.{needs}
 use borrow.Author.Tests.{lt-ltb, le-ltb}
 use Rattle.bytes_at.proofs.Stepped.{free}
 use Rattle.column_desc.specs.ColumnDesc.{blank}
-use Rattle.c_api.specs.Answers.{pickedColumn}
-use Rattle.c_api.proofs.pick_column.Statement.{statement}
-use Rattle.c_api.proofs.pick_column.Tie as tie
+use Rattle.c_values.specs.Answers.{pickedColumn}
+use Rattle.c_values.proofs.pick_column.Statement.{statement}
+use Rattle.c_values.proofs.pick_column.Tie as tie
 
 returns : tie.Need-returns
 unfolding pickedColumn blank

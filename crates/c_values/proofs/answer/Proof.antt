@@ -1,4 +1,4 @@
--- `c_api::answer` meets its contract. The loop's invariant: i values are written.
+-- `c_values::answer` meets its contract. The loop's invariant: i values are written.
 use Prim.Native.Nat.{_-_}
 use native.Mathlib.Nat.{zero-add}
 use native.Mathlib.Omega.{arith}
@@ -6,9 +6,9 @@ use borrow.Author.Needs.{needs}
 use borrow.Author.Tests.{lt-ltb, le-ltb}
 use lib.ListN.{length}
 use Rattle.bytes_at.proofs.Copied.{Copied, copied-start, copied-again, copied-end}
-use Rattle.c_api.specs.Answers.{orShort, written}
-use Rattle.c_api.proofs.answer.Statement.{statement}
-use Rattle.c_api.proofs.answer.Tie as tie
+use Rattle.c_values.specs.Answers.{orShort, written}
+use Rattle.c_values.proofs.answer.Statement.{statement}
+use Rattle.c_values.proofs.answer.Tie as tie
 
 abbrev Inv-loop : tie.InvT-loop
 Inv-loop number values out₀ i₀ out i = Copied values 0 (length values) out₀ out 0 i

@@ -1,8 +1,8 @@
--- `c_api::plan_from` meets its contract.
+-- `c_values::plan_from` meets its contract.
 use borrow.Author.Needs.{needs}
-use Rattle.c_api.specs.Answers.{planFrom}
-use Rattle.c_api.proofs.plan_from.Statement.{statement}
-use Rattle.c_api.proofs.plan_from.Tie as tie
+use Rattle.c_values.specs.Answers.{planFrom}
+use Rattle.c_values.proofs.plan_from.Statement.{statement}
+use Rattle.c_values.proofs.plan_from.Tie as tie
 
 returns : tie.Need-returns
 unfolding planFrom

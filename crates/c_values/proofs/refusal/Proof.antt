@@ -1,8 +1,8 @@
--- `c_api::refusal` meets its contract: a case for each way out.
+-- `c_values::refusal` meets its contract: a case for each way out.
 use borrow.Author.Tests.{eq-eqb, ne-eqb, lt-ltb, le-ltb}
-use Rattle.c_api.specs.Answers.{missing}
-use Rattle.c_api.proofs.refusal.Statement.{statement}
-use Rattle.c_api.proofs.refusal.Tie as tie
+use Rattle.c_values.specs.Answers.{missing}
+use Rattle.c_values.proofs.refusal.Statement.{statement}
+use Rattle.c_values.proofs.refusal.Tie as tie
 
 pub refusal-spec : {M : Type 1} → statement M
 unfolding missing
