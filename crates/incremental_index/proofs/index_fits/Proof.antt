@@ -1,9 +1,9 @@
--- `incremental::index_fits` meets its contract, on either side of its test.
+-- `incremental_index::index_fits` meets its contract, on either side of its test.
 use mathlib.Core.Path.{sym, _∙_}
 use borrow.Author.Tests.{not-true, not-false}
 use Rattle.incremental_rules.specs.Rules.{indexFits}
-use Rattle.incremental.proofs.index_fits.Statement.{statement}
-use Rattle.incremental.proofs.index_fits.Tie as tie
+use Rattle.incremental_index.proofs.index_fits.Statement.{statement}
+use Rattle.incremental_index.proofs.index_fits.Tie as tie
 
 returns : tie.Need-returns
 unfolding indexFits

@@ -1,10 +1,10 @@
--- `incremental::buckets_apart` meets its contract: the marks of two lists, one after the other, decide.
+-- `incremental_index::buckets_apart` meets its contract: the marks of two lists, one after the other, decide.
 use borrow.Author.Needs.{needs}
 use borrow.Author.Tests.{not-true, not-false}
 use Rattle.marks.proofs.Decided.{marks-no, marks-all}
 use Rattle.marks.proofs.Marking.{marks-then}
-use Rattle.incremental.proofs.buckets_apart.Statement.{statement}
-use Rattle.incremental.proofs.buckets_apart.Tie as tie
+use Rattle.incremental_index.proofs.buckets_apart.Statement.{statement}
+use Rattle.incremental_index.proofs.buckets_apart.Tie as tie
 
 returns : tie.Need-returns
 returns c = marks-no _ 4096 (c .before .before .before .before .pre .0 .few) _ _ (c .before .add-numbers .ensures) (not-true _ (c .if1 .taken))

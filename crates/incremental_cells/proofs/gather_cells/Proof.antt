@@ -1,4 +1,4 @@
--- `incremental::gather_cells` meets its contract. The loop's invariant: after k turns the columns are the definition's after k turns.
+-- `incremental_cells::gather_cells` meets its contract. The loop's invariant: after k turns the columns are the definition's after k turns.
 use Prim.Native.Nat.{_-_, _≤_}
 use mathlib.Core.Path.{_≡_}
 use mathlib.Core.Logic.{⊎-elim}
@@ -11,9 +11,9 @@ use Rattle.column_desc.specs.ColumnDesc.{blank}
 use Rattle.column_set.specs.ColumnSet.{noBinding}
 use Rattle.incremental_rules.specs.declared.Cells.{Cells}
 use Rattle.incremental_rules.specs.Rules.{cellInto, noCells, cellsIn}
-use Rattle.incremental.proofs.Turns.{cell-on, cell-off}
-use Rattle.incremental.proofs.gather_cells.Statement.{statement}
-use Rattle.incremental.proofs.gather_cells.Tie as tie
+use Rattle.incremental_cells.proofs.Turns.{cell-on, cell-off}
+use Rattle.incremental_cells.proofs.gather_cells.Statement.{statement}
+use Rattle.incremental_cells.proofs.gather_cells.Tie as tie
 
 abbrev Inv-loop : tie.InvT-loop
 Inv-loop n sequence position columns bindings bytes₀ count₀ column₀ k₀ bytes count column k =

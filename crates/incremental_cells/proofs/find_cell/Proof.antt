@@ -1,4 +1,4 @@
--- `incremental::find_cell` meets its contract. The loop's invariant: after i turns the state is the definition's after i turns.
+-- `incremental_cells::find_cell` meets its contract. The loop's invariant: after i turns the state is the definition's after i turns.
 use Prim.Native.Nat.{_-_, _≤_}
 use mathlib.Core.Path.{_≡_, refl}
 use native.Mathlib.Omega.{arith}
@@ -10,9 +10,9 @@ use Rattle.bytes_at.proofs.Stepped.{free}
 use Rattle.incremental_bucket.proofs.Bounds.{cond-le}
 use Rattle.incremental_rules.specs.declared.Found.{Found}
 use Rattle.incremental_rules.specs.Rules.{bucketInto, nothing, searchOf}
-use Rattle.incremental.proofs.Turns.{start-most, bucket-on, bucket-stop}
-use Rattle.incremental.proofs.find_cell.Statement.{statement}
-use Rattle.incremental.proofs.find_cell.Tie as tie
+use Rattle.incremental_cells.proofs.Turns.{start-most, bucket-on, bucket-stop}
+use Rattle.incremental_cells.proofs.find_cell.Statement.{statement}
+use Rattle.incremental_cells.proofs.find_cell.Tie as tie
 
 abbrev Inv-loop : tie.InvT-loop
 Inv-loop f big size x cells row bytes n start₀ offset₀ i₀ start offset i =

@@ -1,4 +1,4 @@
--- `incremental::rows_rise` meets its contract. The loop's invariant: the first rows that are left decide.
+-- `incremental_index::rows_rise` meets its contract. The loop's invariant: the first rows that are left decide.
 use Prim.Native.Nat.{_+_, _*_}
 use mathlib.Core.Path.{_≡_, refl, sym, _∙_}
 use native.Mathlib.Omega.{arith}
@@ -7,9 +7,9 @@ use Rattle.bytes_at.proofs.Stepped.{free}
 use Rattle.row_index.specs.Numbers.{numbersAt}
 use Rattle.incremental_rules.specs.Rules.{risesTo}
 use mathlib.Core.Bool.{true}
-use Rattle.incremental.proofs.Rising.{rise-first, rise-not, rise-end, rise-out, rise-step}
-use Rattle.incremental.proofs.rows_rise.Statement.{statement}
-use Rattle.incremental.proofs.rows_rise.Tie as tie
+use Rattle.incremental_index.proofs.Rising.{rise-first, rise-not, rise-end, rise-out, rise-step}
+use Rattle.incremental_index.proofs.rows_rise.Statement.{statement}
+use Rattle.incremental_index.proofs.rows_rise.Tie as tie
 
 abbrev Inv-loop : tie.InvT-loop
 Inv-loop f from n rows at₀ left₀ last₀ at left last =

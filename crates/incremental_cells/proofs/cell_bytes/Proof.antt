@@ -1,8 +1,8 @@
--- `incremental::cell_bytes` meets its contract, on either side of its test.
+-- `incremental_cells::cell_bytes` meets its contract, on either side of its test.
 use borrow.Author.Needs.{needs}
 use borrow.Author.Tests.{eq-eqb, ne-eqb}
-use Rattle.incremental.proofs.cell_bytes.Statement.{statement}
-use Rattle.incremental.proofs.cell_bytes.Tie as tie
+use Rattle.incremental_cells.proofs.cell_bytes.Statement.{statement}
+use Rattle.incremental_cells.proofs.cell_bytes.Tie as tie
 
 returns : tie.Need-returns
 returns c = rw (eq-eqb _ _ (c .if1 .taken))

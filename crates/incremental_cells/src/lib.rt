@@ -1,0 +1,110 @@
+// The columns that an IncrementalStMan keeps, and the pass over its buckets, which finds the cell that is asked for (document
+// 01, "IncrementalStMan").
+ghost use mathlib.Core.Path.{_≡_};
+ghost use mathlib.Core.Bool.{true};
+ghost use Prim.Native.Nat.{ℕ, _+_, _≤_, _<_};
+ghost use lib.ListN.{length};
+ghost use Rattle.buckets.specs.Chain.{startOf};
+ghost use Rattle.row_index.specs.Numbers.{numberIn};
+ghost use Rattle.incremental_text.specs.Index.{IndexInside};
+ghost use Rattle.incremental_rules.specs.Rules.{cellBytes, cellsIn, searchOf};
+use column_desc::Column;
+use column_set::Binding;
+use incremental_rules::Cells;
+use incremental_rules::Found;
+use incremental_text::Index;
+
+// The whole bytes of a cell, 0 for a String.
+pub fn cell_bytes(c: Column) -> usize
+    ensures { λ r. ⌜ r ≡ cellBytes c ⌝ }
+{
+    let datatype = c.datatype;
+    if datatype.number == 11 {
+        return 0;
+    }
+    (c.bits as usize + 7) / 8
+}
+
+// Of n columns, those that are bound to the manager with the sequence number, and which of them is at the position.
+pub fn gather_cells(
+    columns: [Column; 64],
+    bindings: [Binding; 64],
+    n: usize,
+    sequence: usize,
+    position: usize,
+) -> Cells
+    requires { ⌜ n ≤ 64 ⌝ }
+    ensures { λ r. ⌜ r ≡ cellsIn columns bindings n sequence position ⌝ }
+    ensures few { λ r. ⌜ r .count ≤ 64 ⌝ }
+{
+    let mut bytes = [0usize; 64];
+    let mut count = 0;
+    let mut column = 64;
+    let mut k = 0;
+    while k < n {
+        let b = bindings[k];
+        if b.sequence as usize == sequence {
+            let c = columns[k];
+            bytes[count] = cell_bytes(c);
+            column = incremental_bucket::choose(k == position, count, column);
+            count += 1;
+        }
+        k += 1;
+    }
+    Cells {
+        bytes: bytes,
+        count: count,
+        column: column,
+    }
+}
+
+// The buckets in index order, which all lie in the file, up to the first that is refused. Gives the start of the row's bucket, and the offset of the row's
+// value in the column.
+pub fn find_cell(f: &[u8], big: bool, size: usize, x: Index, cells: Cells, row: usize) -> Found
+    requires { ⌜ (size ≤ 1048576) × (cells .count ≤ 64) ⌝ }
+    requires { ⌜ IndexInside (length (now f)) 4 x ⌝ }
+    requires { ⌜ ((i : ℕ) → i < x .count → startOf size (numberIn true 4 (now f) (x .buckets) i) + size ≤ length (now f)) ⌝ }
+    ensures { λ r. ⌜ r ≡ searchOf big (now (f .entry)) size x cells row ⌝ }
+    ensures bounded { λ r. ⌜ (r .start ≤ 4503599627371008) × (r .offset ≤ 1048576) ⌝ }
+{
+    let bytes = cells.bytes;
+    let n = x.count;
+    let mut start = 0;
+    let mut offset = 0;
+    let mut i = 0;
+    while i < n {
+        let b = bytes_at::word(f, x.buckets + i * 4, true);
+        let first = bytes_at::word(f, x.firsts + i * 4, true);
+        let past = bytes_at::word(f, x.firsts + (i + 1) * 4, true);
+        let at = 512 + b * size;
+        let rows = bytes_at::minus(past, first);
+        let local = bytes_at::minus(row, first);
+        let one = incremental_bucket::read_bucket(
+            f,
+            at,
+            size,
+            big,
+            rows,
+            local,
+            cells.column,
+            &bytes,
+            cells.count,
+        );
+        let refused = one.next.refused;
+        if refused != 0 {
+            return Found {
+                start: 0,
+                offset: 0,
+                refused: refused,
+            };
+        }
+        start = incremental_bucket::choose(first <= row, at, start);
+        offset = incremental_bucket::choose(first <= row, one.value, offset);
+        i += 1;
+    }
+    Found {
+        start: start,
+        offset: offset,
+        refused: 0,
+    }
+}

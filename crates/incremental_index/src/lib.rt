@@ -1,0 +1,78 @@
+// The index of an IncrementalStMan file (document 01, "IncrementalStMan"): its bucket numbers and its first rows.
+ghost use mathlib.Core.Path.{_≡_};
+ghost use mathlib.Core.Bool.{true};
+ghost use mathlib.Core.List.{_++_};
+ghost use Prim.Native.Nat.{_+_, _*_, _≤_};
+ghost use lib.ListN.{length};
+ghost use Rattle.buckets.specs.Chain.{Area, links};
+ghost use Rattle.row_index.specs.Numbers.{numbersAt};
+ghost use Rattle.marks.specs.Different.{allApart};
+ghost use Rattle.incremental_text.specs.Index.{IndexInside};
+ghost use Rattle.incremental_rules.specs.Rules.{firstsFit, indexFits};
+use incremental_text::Header;
+use incremental_text::Index;
+
+// Whether the n buckets whose numbers stand in the file from a place on, and k free buckets from b on, are in range and all
+// different.
+pub fn buckets_apart(
+    f: &[u8],
+    size: usize,
+    nb: usize,
+    from: usize,
+    n: usize,
+    k: usize,
+    b: usize,
+) -> bool
+    requires { ⌜ Area (now f) size nb ⌝ }
+    requires { ⌜ from + n * 4 ≤ length (now f) ⌝ }
+    ensures { λ r. ⌜ r ≡ allApart nb (numbersAt true 4 (now (f .entry)) from n ++ links (now (f .entry)) size k b) ⌝ }
+{
+    let mut seen = [0u8; 4096];
+    if !marks::add_numbers(&mut seen, nb, f, from, n) {
+        return false;
+    }
+    marks::add_chain(&mut seen, nb, f, size, k, b)
+}
+
+// Whether the n + 1 first rows that stand in the file from a place on begin with 0, rise strictly and end at the row count.
+pub fn rows_rise(f: &[u8], from: usize, n: usize, rows: usize) -> bool
+    requires { ⌜ from + (n + 1) * 4 ≤ length (now f) ⌝ }
+    ensures { λ r. ⌜ r ≡ firstsFit rows (numbersAt true 4 (now (f .entry)) from (n + 1)) ⌝ }
+{
+    if bytes_at::word(f, from, true) != 0 {
+        return false;
+    }
+    let mut at = from + 4;
+    let mut left = n;
+    let mut last = 0;
+    while 0 < left {
+        let v = bytes_at::word(f, at, true);
+        if v <= last {
+            return false;
+        }
+        last = v;
+        at += 4;
+        left -= 1;
+    }
+    last == rows
+}
+
+// Whether the index is right: its bucket numbers and its first rows.
+pub fn index_fits(f: &[u8], h: Header, x: Index, rows: usize) -> bool
+    requires { ⌜ Area (now f) (h .size) (h .count) ⌝ }
+    requires { ⌜ IndexInside (length (now f)) 4 x ⌝ }
+    ensures { λ r. ⌜ r ≡ indexFits rows (now (f .entry)) h x ⌝ }
+{
+    if !buckets_apart(
+        f,
+        h.size,
+        h.count,
+        x.buckets,
+        x.count,
+        h.free_count,
+        h.first_free,
+    ) {
+        return false;
+    }
+    rows_rise(f, x.firsts, x.count, rows)
+}
