@@ -68,7 +68,13 @@ pub fn check(
     }
     let columns = d.columns;
     let bindings = d.bindings;
-    let cells = incremental_cells::gather_cells(columns, bindings, d.column_count, sequence, position);
+    let cells = incremental_cells::gather_cells(
+        columns,
+        bindings,
+        d.column_count,
+        sequence,
+        position,
+    );
     let found = incremental_cells::find_cell(f, d.big, h.size, x, cells, row);
     let wrong = found.refused;
     if wrong != 0 {

@@ -19,10 +19,11 @@ use Rattle.aipsio.specs.declared.Value.{Value}
 use Rattle.aipsio.specs.Field.{movedTo, skipped, judged, settled, sizedAt, uintAt}
 use Rattle.aipsio.proofs.Kept.{Clean, clean-before, uint-reads, judged-keeps, skipped-keeps, _⨟_}
 use Rattle.aipsio.proofs.Accepted.{judged-passed, judged-is, judged-within, skipped-is, sized-fits, sized-is, uint-is}
-use Rattle.incremental_bucket.specs.declared.Starts.{Starts}
-use Rattle.incremental_bucket.specs.Bucket.{dataAt, startFits, started, startInto, startsAt, offsetInto, offsetsAt, columnAt, columnInto, columnsAt, bucketAt}
+use Rattle.incremental_values.specs.declared.Starts.{Starts}
+use Rattle.incremental_values.specs.Values.{startFits, started, startInto, startsAt, offsetInto, offsetsAt}
+use Rattle.incremental_bucket.specs.Bucket.{dataAt, columnAt, columnInto, columnsAt, bucketAt}
 use Rattle.incremental_bucket.specs.Value.{lastBelow, pastPart, partOf, startIn, valueIn, offsetIn}
-use Rattle.incremental_bucket.proofs.Turns.{started-on, started-off}
+use Rattle.incremental_values.proofs.Turns.{started-on, started-off}
 use Rattle.incremental_bucket.proofs.Last.{last-below}
 
 -- the first start is 0

@@ -13,8 +13,9 @@ use Rattle.bytes_at.specs.Steps.{_>>=_}
 use Rattle.aipsio.specs.declared.Cursor.{Cursor}
 use Rattle.aipsio.specs.declared.Value.{Value}
 use Rattle.aipsio.specs.Field.{judged, settled, uintAt}
-use Rattle.incremental_bucket.specs.declared.Starts.{Starts}
-use Rattle.incremental_bucket.specs.Bucket.{dataAt, started, startInto, startsAt, offsetInto, offsetsAt, columnAt, columnInto, columnsAt, bucketAt}
+use Rattle.incremental_values.specs.declared.Starts.{Starts}
+use Rattle.incremental_values.specs.Values.{started, startInto, startsAt, offsetInto, offsetsAt}
+use Rattle.incremental_bucket.specs.Bucket.{dataAt, columnAt, columnInto, columnsAt, bucketAt}
 
 -- the same starts were read
 record Alike (a b : Starts) : Type 0 where

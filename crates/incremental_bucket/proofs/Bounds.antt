@@ -15,7 +15,8 @@ use Rattle.aipsio.specs.Field.{uintAt}
 use Rattle.aipsio.proofs.Kept.{clean-before, skipped-keeps}
 use Rattle.aipsio.proofs.Accepted.{judged-passed, judged-within}
 use Rattle.aipsio.proofs.Bounds.{settled-le}
-use Rattle.incremental_bucket.specs.Bucket.{dataAt, offsetInto, offsetsAt, columnAt, columnInto, columnsAt, bucketAt}
+use Rattle.incremental_values.specs.Values.{offsetInto, offsetsAt}
+use Rattle.incremental_bucket.specs.Bucket.{dataAt, columnAt, columnInto, columnsAt, bucketAt}
 
 -- one of two numbers
 pub cond-le : (t : Bool) {a b m r : ℕ} → a ≤ m → b ≤ m → r ≡ cond t a b → r ≤ m

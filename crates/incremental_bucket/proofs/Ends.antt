@@ -1,11 +1,9 @@
--- Readers in a bucket leave its end as it is; and how many numbers of four bytes there is room for.
+-- Readers in a bucket leave its end as it is.
 -- Assumes nothing.
 use mathlib.Core.Path.{_≡_, refl, ap, _∙_}
 use mathlib.Core.List.{List}
 use mathlib.Core.Bool.{Bool, true, false, cond}
-use Prim.Native.Nat.{ℕ, _+_, _-_, _*_, _/_, _≤_, _<_}
-use native.Mathlib.Nat.{mul-le-mul-right, div-mul-le-self, div-lt-iff-lt-mul}
-use native.Mathlib.Omega.{arith}
+use Prim.Native.Nat.{ℕ, _+_}
 use lib.Dec.{leb, eqb}
 use Rattle.bytes_at.specs.Steps.{_>>=_}
 use Rattle.aipsio.specs.declared.Cursor.{Cursor}
@@ -32,25 +30,6 @@ uint-end s c = skipped-end c 4
 data-end : (s : List ℕ) (c : Cursor) (size : ℕ) → dataAt s c size .next .end ≡ c .end
 unfolding dataAt settled _>>=_
 data-end s c size = skipped-end _ _ ∙ judged-end _ _ _ 11 ∙ judged-end _ _ _ 3 ∙ uint-end s c
-
--- number i of those that there is room for
-pub room-here : (left i : ℕ) → i < left / 4 → i * 4 + 4 ≤ left
-room-here left i h = omega (arith, mul-le-mul-right {m = i + 1} {n = left / 4} 4 (omega arith), div-mul-le-self left 4)
-
--- there is no room for one more
-pub no-room : (left i : ℕ) → i ≡ left / 4 → left < i * 4 + 4
-no-room left i e =
-    let l : left / 4 < i + 1 = omega arith in
-    let k : left < (i + 1) * 4 = div-lt-iff-lt-mul {k = 4} (omega arith) .0 l in
-    omega arith
-
--- the same at a place, after i numbers from the first
-module _ (end first i : ℕ) {left at : ℕ} (e : left ≡ end - first) (p : at ≡ first + i * 4) where
-  pub room-at : {m : ℕ} → m ≤ left / 4 → i < m → at + 4 ≤ end
-  room-at h l = omega (arith, room-here left i (omega arith))
-
-  pub no-room-at : i ≡ left / 4 → end - at < 4
-  no-room-at q = omega (arith, no-room left i q)
 
 -- of what `read_data` gave
 pub data-of-end : (s : List ℕ) (c : Cursor) (size : ℕ) {v : Value} → v ≡ dataAt s c size → v .next .end ≡ c .end

@@ -17,9 +17,10 @@ use Rattle.aipsio.specs.declared.Value.{Value}
 use Rattle.aipsio.specs.Field.{refusedAt, movedTo, leftIn, judged, uintAt}
 use Rattle.aipsio.proofs.Kept.{Clean, Refused, refused-reads, skipped-keeps, judged-keeps, settled-none, uint-reads}
 use Rattle.aipsio.proofs.Sides.{judge-on, judge-refused, skip-on, skip-refused, settle-on}
-use Rattle.incremental_bucket.specs.declared.Starts.{Starts}
-use Rattle.incremental_bucket.specs.Bucket.{refusedValue, dataAt, startsAt, offsetsAt, columnAt}
-use Rattle.incremental_bucket.proofs.Turns.{number-short, number-on, starts-none, offsets-none}
+use Rattle.incremental_values.specs.declared.Starts.{Starts}
+use Rattle.incremental_values.specs.Values.{refusedValue, startsAt, offsetsAt}
+use Rattle.incremental_bucket.specs.Bucket.{dataAt, columnAt}
+use Rattle.incremental_values.proofs.Turns.{number-short, number-on, starts-none, offsets-none}
 
 pub within-least : (low x high : ℕ) {ok : Bool} → ok ≡ leb low x && leb x high → ok ≡ true → low ≤ x
 within-least low x high t z = go (leb low x) refl (sym t ∙ z)

@@ -1,5 +1,4 @@
 -- Laws that proofs of this crate and of those above it cite.
-pub mod Turns
 pub mod Heads
 pub mod Ends
 pub mod Bounds

@@ -46,7 +46,7 @@ pub fn gather_cells(
         if b.sequence as usize == sequence {
             let c = columns[k];
             bytes[count] = cell_bytes(c);
-            column = incremental_bucket::choose(k == position, count, column);
+            column = incremental_values::choose(k == position, count, column);
             count += 1;
         }
         k += 1;
@@ -98,8 +98,8 @@ pub fn find_cell(f: &[u8], big: bool, size: usize, x: Index, cells: Cells, row: 
                 refused: refused,
             };
         }
-        start = incremental_bucket::choose(first <= row, at, start);
-        offset = incremental_bucket::choose(first <= row, one.value, offset);
+        start = incremental_values::choose(first <= row, at, start);
+        offset = incremental_values::choose(first <= row, one.value, offset);
         i += 1;
     }
     Found {

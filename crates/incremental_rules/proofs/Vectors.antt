@@ -26,7 +26,8 @@ use Rattle.marks.specs.Different.{allApart}
 use Rattle.incremental_text.specs.Header.{fieldsAt, headed, headerIn}
 use Rattle.incremental_text.specs.Index.{indexed, indexIn}
 use Rattle.incremental_text.proofs.Vectors.{row, header, object}
-use Rattle.incremental_bucket.specs.Bucket.{dataAt, startFits, started, startInto, startsAt, offsetInto, offsetsAt, columnAt, columnInto, columnsAt, bucketAt}
+use Rattle.incremental_values.specs.Values.{startFits, started, startInto, startsAt, offsetInto, offsetsAt}
+use Rattle.incremental_bucket.specs.Bucket.{dataAt, columnAt, columnInto, columnsAt, bucketAt}
 use Rattle.incremental_bucket.specs.Value.{lastBelow}
 use Rattle.incremental_rules.specs.Rules.{risesTo, firstsFit, indexFits, cellInto, cellsIn, foundAs, bucketInto, searchOf, refusalOf, checkedAs}
 use Rattle.incremental_rules.specs.Places.{partAt, bitOf, placeOf}

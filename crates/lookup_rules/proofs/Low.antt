@@ -38,8 +38,9 @@ use Rattle.incremental_text.specs.declared.HeaderFields.{HeaderFields}
 use Rattle.incremental_text.specs.declared.Index.{Index}
 use Rattle.incremental_text.specs.Header.{fieldsAt, headed as incrementalHeaded, headerIn as incrementalHeaderIn, headerAt as incrementalHeader}
 use Rattle.incremental_text.specs.Index.{indexed as incrementalIndexed, indexIn as incrementalIndexIn, indexAt as incrementalIndex}
-use Rattle.incremental_bucket.specs.declared.Starts.{Starts}
-use Rattle.incremental_bucket.specs.Bucket.{dataAt, started, startInto, startsAt, offsetInto, offsetsAt, columnAt as partColumnAt, columnInto as partColumnInto, columnsAt as partColumnsAt, orderOf, bucketAt}
+use Rattle.incremental_values.specs.declared.Starts.{Starts}
+use Rattle.incremental_values.specs.Values.{started, startInto, startsAt, offsetInto, offsetsAt}
+use Rattle.incremental_bucket.specs.Bucket.{dataAt, columnAt as partColumnAt, columnInto as partColumnInto, columnsAt as partColumnsAt, orderOf, bucketAt}
 use Rattle.incremental_rules.specs.declared.Cells.{Cells}
 use Rattle.incremental_rules.specs.Rules.{foundAs, bucketInto, nothing}
 

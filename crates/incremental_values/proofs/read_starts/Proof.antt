@@ -1,4 +1,4 @@
--- `incremental_bucket::read_starts` meets its contract. The loop's invariant: after i turns the state is the definition's after i turns.
+-- `incremental_values::read_starts` meets its contract. The loop's invariant: after i turns the state is the definition's after i turns.
 use Prim.Native.Nat.{_+_, _-_, _*_, _≤_}
 use mathlib.Core.Path.{_≡_, refl}
 use native.Mathlib.Omega.{arith}
@@ -7,12 +7,12 @@ use borrow.Author.Tests.{not-true, not-false}
 use Rattle.bytes_at.specs.Loop.{after}
 use Rattle.bytes_at.proofs.Loops.{after-none, after-more}
 use Rattle.bytes_at.proofs.Stepped.{free}
-use Rattle.incremental_bucket.specs.declared.Starts.{Starts}
-use Rattle.incremental_bucket.specs.Bucket.{startInto}
-use Rattle.incremental_bucket.proofs.Ends.{room-at, no-room-at}
-use Rattle.incremental_bucket.proofs.Turns.{start-short, start-wrong, start-on, starts-none, starts-stop, starts-all}
-use Rattle.incremental_bucket.proofs.read_starts.Statement.{statement}
-use Rattle.incremental_bucket.proofs.read_starts.Tie as tie
+use Rattle.incremental_values.specs.declared.Starts.{Starts}
+use Rattle.incremental_values.specs.Values.{startInto}
+use Rattle.incremental_values.proofs.Room.{room-at, no-room-at}
+use Rattle.incremental_values.proofs.Turns.{start-short, start-wrong, start-on, starts-none, starts-stop, starts-all}
+use Rattle.incremental_values.proofs.read_starts.Statement.{statement}
+use Rattle.incremental_values.proofs.read_starts.Tie as tie
 
 abbrev Inv-loop : tie.InvT-loop
 Inv-loop s n rows row end big refused room m at₀ last₀ hit₀ i₀ at last hit i =

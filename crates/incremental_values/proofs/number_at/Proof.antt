@@ -1,9 +1,9 @@
--- `incremental_bucket::number_at` meets its contract, in either byte order.
+-- `incremental_values::number_at` meets its contract, in either byte order.
 use native.Mathlib.Omega.{arith}
 use borrow.Author.Needs.{needs}
 use Rattle.bytes_at.proofs.Numbers.{four-big, four-little}
-use Rattle.incremental_bucket.proofs.number_at.Statement.{statement}
-use Rattle.incremental_bucket.proofs.number_at.Tie as tie
+use Rattle.incremental_values.proofs.number_at.Statement.{statement}
+use Rattle.incremental_values.proofs.number_at.Tie as tie
 
 pub number-at-spec : {M : Type 1} → statement M
 number-at-spec =

@@ -24,8 +24,8 @@ use Rattle.aipsio.proofs.Kept.{Clean, Refused, refused-reads, judged-keeps, set
 use Rattle.aipsio.proofs.Sides.{judge-on, judge-refused, settle-on}
 use Rattle.aipsio.proofs.Ways.{sized-short, sized-on}
 use Rattle.aipsio.proofs.Accepted.{uint-is}
-use Rattle.incremental_bucket.specs.declared.Starts.{Starts}
-use Rattle.incremental_bucket.specs.Bucket.{startFits, started, startInto, startsAt, offsetInto, offsetsAt}
+use Rattle.incremental_values.specs.declared.Starts.{Starts}
+use Rattle.incremental_values.specs.Values.{startFits, started, startInto, startsAt, offsetInto, offsetsAt}
 
 -- a sum that is tested without being made
 pub leb-minus : (v b d : ℕ) → b ≤ d → leb v (d - b) ≡ leb (v + b) d

@@ -1,8 +1,8 @@
--- `incremental_bucket::start_fits` meets its contract, on each side of its tests.
+-- `incremental_values::start_fits` meets its contract, on each side of its tests.
 use borrow.Author.Tests.{eq-eqb, ne-eqb, le-leb, lt-leb}
-use Rattle.incremental_bucket.specs.Bucket.{startFits}
-use Rattle.incremental_bucket.proofs.start_fits.Statement.{statement}
-use Rattle.incremental_bucket.proofs.start_fits.Tie as tie
+use Rattle.incremental_values.specs.Values.{startFits}
+use Rattle.incremental_values.proofs.start_fits.Statement.{statement}
+use Rattle.incremental_values.proofs.start_fits.Tie as tie
 
 returns : tie.Need-returns
 unfolding startFits

@@ -1,0 +1,220 @@
+// The values of one column in a bucket of an IncrementalStMan file (document 01, "IncrementalStMan"; Note 260, 3.4.3: Data
+// Bucket): their starts and their offsets. No byte of the data part is read.
+ghost use mathlib.Core.Path.{_≡_};
+ghost use mathlib.Core.Bool.{cond};
+ghost use Prim.Native.Nat.{_+_, _≤_, _<_};
+ghost use lib.Dec.{leb};
+ghost use lib.ListN.{length};
+ghost use Rattle.bytes_at.specs.Number.{uintOf};
+ghost use Rattle.incremental_values.specs.Values.{refusedValue, startFits, startsAt, offsetsAt};
+use aipsio::Cursor;
+use aipsio::Value;
+
+// The starts of a column's values: the last one, and which is the last that is not above the row; zeros where the cursor is
+// refused.
+pub struct Starts {
+    pub last: usize,
+    pub hit: usize,
+    pub next: Cursor,
+}
+
+// The first number where the test holds, else the second.
+pub fn choose(test: bool, a: usize, b: usize) -> usize
+    ensures { λ r. ⌜ r ≡ cond test a b ⌝ }
+{
+    if test {
+        return a;
+    }
+    b
+}
+
+fn wide(x: u8) -> usize
+    ensures { λ r. ⌜ (r ≡ x) × (r < 256) ⌝ }
+{
+    x as usize
+}
+
+// The number in four bytes that are there.
+pub fn number_at(s: &[u8], at: usize, big: bool) -> usize
+    requires { ⌜ at + 4 ≤ length (now s) ⌝ }
+    ensures { λ r. ⌜ r ≡ uintOf big 4 (now (s .entry)) at ⌝ }
+{
+    let a = wide(s[at]);
+    let b = wide(s[at + 1]);
+    let c = wide(s[at + 2]);
+    let d = wide(s[at + 3]);
+    if big {
+        return a * 16777216 + b * 65536 + c * 256 + d;
+    }
+    d * 16777216 + c * 65536 + b * 256 + a
+}
+
+// The lesser of two numbers.
+fn least(a: usize, b: usize) -> usize
+    ensures { λ r. ⌜ (r ≤ a) × (r ≤ b) × (r < a → r ≡ b) ⌝ }
+{
+    if a < b {
+        return a;
+    }
+    b
+}
+
+// Nothing was read: the field that begins at `from` is refused with the number.
+pub fn refuse(c: Cursor, from: usize, number: usize) -> Value
+    ensures { λ r. ⌜ r ≡ refusedValue c from number ⌝ }
+{
+    Value {
+        value: 0,
+        next: Cursor {
+            at: from,
+            end: c.end,
+            big: c.big,
+            refused: number,
+        },
+    }
+}
+
+// Whether start i of a column may follow the last one, in a bucket of so many rows.
+fn start_fits(i: usize, last: usize, v: usize, rows: usize) -> bool
+    ensures { λ r. ⌜ r ≡ startFits i last v rows ⌝ }
+{
+    if rows <= v {
+        return false;
+    }
+    if i == 0 {
+        return v == 0;
+    }
+    last < v
+}
+
+// The n starts of a column, up to the first that is refused. No more are looked at than the bucket has room for, whatever n is.
+pub fn read_starts(s: &[u8], c: Cursor, n: usize, rows: usize, row: usize) -> Starts
+    requires { ⌜ c .end ≤ length (now s) ⌝ }
+    ensures { λ r. ⌜ r ≡ startsAt (now (s .entry)) c n rows row ⌝ }
+    ensures inside { λ r. ⌜ r .next .end ≡ c .end ⌝ }
+{
+    let end = c.end;
+    let big = c.big;
+    let refused = c.refused;
+    if refused != 0 {
+        return Starts {
+            last: 0,
+            hit: 0,
+            next: c,
+        };
+    }
+    let room = aipsio::left(c) / 4;
+    let m = least(n, room);
+    let mut at = c.at;
+    let mut last = 0;
+    let mut hit = 0;
+    let mut i = 0;
+    while i < m {
+        let v = number_at(s, at, big == 1);
+        if !start_fits(i, last, v, rows) {
+            return Starts {
+                last: 0,
+                hit: 0,
+                next: Cursor {
+                    at: at,
+                    end: end,
+                    big: big,
+                    refused: 11,
+                },
+            };
+        }
+        hit = choose(v <= row, i, hit);
+        last = v;
+        at += 4;
+        i += 1;
+    }
+    if m < n {
+        return Starts {
+            last: 0,
+            hit: 0,
+            next: Cursor {
+                at: at,
+                end: end,
+                big: big,
+                refused: 1,
+            },
+        };
+    }
+    Starts {
+        last: last,
+        hit: hit,
+        next: Cursor {
+            at: at,
+            end: end,
+            big: big,
+            refused: 0,
+        },
+    }
+}
+
+// Whether so many bytes from an offset on lie within the limit.
+fn lies_within(offset: usize, bytes: usize, limit: usize) -> bool
+    ensures { λ r. ⌜ r ≡ leb (offset + bytes) limit ⌝ }
+{
+    if limit < bytes {
+        return false;
+    }
+    offset <= limit - bytes
+}
+
+// The n offsets of a column whose values take so many bytes, up to the first that is refused: gives the one of value `hit`. No
+// more are looked at than the bucket has room for, whatever n is.
+pub fn read_offsets(s: &[u8], c: Cursor, n: usize, limit: usize, bytes: usize, hit: usize) -> Value
+    requires { ⌜ c .end ≤ length (now s) ⌝ }
+    ensures { λ r. ⌜ r ≡ offsetsAt (now (s .entry)) c n limit bytes hit ⌝ }
+    ensures inside { λ r. ⌜ r .next .end ≡ c .end ⌝ }
+{
+    let end = c.end;
+    let big = c.big;
+    let refused = c.refused;
+    if refused != 0 {
+        return Value { value: 0, next: c };
+    }
+    let room = aipsio::left(c) / 4;
+    let m = least(n, room);
+    let mut at = c.at;
+    let mut offset = 0;
+    let mut i = 0;
+    while i < m {
+        let v = number_at(s, at, big == 1);
+        if !lies_within(v, bytes, limit) {
+            return Value {
+                value: 0,
+                next: Cursor {
+                    at: at,
+                    end: end,
+                    big: big,
+                    refused: 11,
+                },
+            };
+        }
+        offset = choose(i == hit, v, offset);
+        at += 4;
+        i += 1;
+    }
+    if m < n {
+        return Value {
+            value: 0,
+            next: Cursor {
+                at: at,
+                end: end,
+                big: big,
+                refused: 1,
+            },
+        };
+    }
+    Value {
+        value: offset,
+        next: Cursor {
+            at: at,
+            end: end,
+            big: big,
+            refused: 0,
+        },
+    }
+}
