@@ -3,7 +3,7 @@
 ghost use mathlib.Core.Path.{_≡_};
 ghost use Prim.Native.Nat.{_<_, _≤_};
 ghost use Rattle.bytes_at.specs.Number.{bytesOf};
-ghost use Rattle.bytes_at.specs.Bytes.{joined, Joins};
+ghost use Rattle.bytes_at.specs.Bytes.{Joins, endOf, textOf};
 ghost use Rattle.aipsio.specs.Field.{
   refusedAt,
   leftIn,
@@ -328,10 +328,10 @@ pub fn name(s: &[u8], c: Cursor, expected: &[u8]) -> Cursor
     refuse(found.next, c.at, 2)
 }
 
-// The same of a name that the source has, of n bytes, whose first eight and last eight are given.
-pub fn text_name(s: &[u8], c: Cursor, n: usize, first: &[u8; 8], last: &[u8; 8]) -> Cursor
-    requires { ⌜ Joins n (now first) (now last) ⌝ }
-    ensures { λ r. ⌜ r ≡ nameAt (now (s .entry)) c (joined n (now (first .entry)) (now (last .entry))) ⌝ }
+// The same of a name that the source has, given as `bytes_at::is_text` takes it.
+pub fn text_name(s: &[u8], c: Cursor, n: usize, first: usize, last: usize) -> Cursor
+    requires { ⌜ Joins (endOf n) n first last ⌝ }
+    ensures { λ r. ⌜ r ≡ nameAt (now (s .entry)) c (textOf n first last) ⌝ }
 {
     let found = any_string(s, c);
     let refused = found.next.refused;
@@ -371,29 +371,19 @@ pub fn enter(c: Cursor, outer: Cursor, len: usize) -> Cursor
 }
 
 // An object's header: its length, its name and its version, one of a range, and then its end against its container's.
-// Gives the version, and the cursor at the object's first field.
-pub fn open(s: &[u8], c: Cursor, expected: &[u8], low: usize, high: usize) -> Value
-    ensures { λ r. ⌜ r ≡ opened (now (s .entry)) c (now (expected .entry)) low high ⌝ }
-{
-    let len = uint(s, c);
-    let d = name(s, len.next, expected);
-    let v = version(s, d, low, high);
-    let e = enter(v.next, c, len.value);
-    settle(v.value, e)
-}
-
-// The same of an object whose name the source has, of n bytes, whose first eight and last eight are given.
-pub fn open_text(
+// Gives the version, and the cursor at the object's first field. The name has n bytes, 4 to 16, and goes as two numbers: its
+// first eight bytes and its last eight, or four and four where it has fewer than eight.
+pub fn open(
     s: &[u8],
     c: Cursor,
     n: usize,
-    first: &[u8; 8],
-    last: &[u8; 8],
+    first: usize,
+    last: usize,
     low: usize,
     high: usize,
 ) -> Value
-    requires { ⌜ Joins n (now first) (now last) ⌝ }
-    ensures { λ r. ⌜ r ≡ opened (now (s .entry)) c (joined n (now (first .entry)) (now (last .entry))) low high ⌝ }
+    requires { ⌜ Joins (endOf n) n first last ⌝ }
+    ensures { λ r. ⌜ r ≡ opened (now (s .entry)) c (textOf n first last) low high ⌝ }
 {
     let len = uint(s, c);
     let d = text_name(s, len.next, n, first, last);
@@ -448,7 +438,8 @@ pub fn pass(c: Cursor, outer: Cursor) -> Cursor
 pub fn record(s: &[u8], c: Cursor) -> Cursor
     ensures { λ r. ⌜ r ≡ recordAt (now (s .entry)) c ⌝ }
 {
-    let o = open_text(s, c, 11, b"TableRec", b"leRecord", 1, 1);
+    // TableRecord
+    let o = open(s, c, 11, 0x5461626c65526563, 0x6c655265636f7264, 1, 1);
     pass(o.next, c)
 }
 
@@ -457,7 +448,8 @@ pub fn block(s: &[u8], c: Cursor, n: usize, size: usize) -> Value
     requires { ⌜ 0 < size ⌝ }
     ensures { λ r. ⌜ r ≡ blockAt (now (s .entry)) c n size ⌝ }
 {
-    let o = open(s, c, b"Block", 1, 1);
+    // Block
+    let o = open(s, c, 5, 0x426c6f63, 0x6c6f636b, 1, 1);
     let k = agree(s, o.next, n);
     let e = skip_each(k, n, size);
     let d = close(e, c);
@@ -468,7 +460,8 @@ pub fn block(s: &[u8], c: Cursor, n: usize, size: usize) -> Value
 pub fn map(s: &[u8], c: Cursor) -> Cursor
     ensures { λ r. ⌜ r ≡ mapAt (now (s .entry)) c ⌝ }
 {
-    let o = open_text(s, c, 16, b"SimpleOr", b"deredMap", 1, 1);
+    // SimpleOrderedMap
+    let o = open(s, c, 16, 0x53696d706c654f72, 0x64657265644d6170, 1, 1);
     let default = uint(s, o.next);
     let n = uint(s, default.next);
     let increment = uint(s, n.next);
@@ -490,7 +483,8 @@ fn axis_width(version: usize) -> Width
 pub fn iposition(s: &[u8], c: Cursor) -> Cursor
     ensures { λ r. ⌜ r ≡ ipositionAt (now (s .entry)) c ⌝ }
 {
-    let o = open_text(s, c, 9, b"IPositio", b"Position", 1, 2);
+    // IPosition
+    let o = open(s, c, 9, 0x49506f736974696f, 0x506f736974696f6e, 1, 2);
     let n = uint(s, o.next);
     let width = axis_width(o.value);
     let e = skip_each(n.next, n.value, width.bytes());
@@ -529,7 +523,8 @@ pub fn shape(s: &[u8], c: Cursor, dimensions: usize) -> Value
     ensures { λ r. ⌜ r ≡ shapeAt (now (s .entry)) c dimensions ⌝ }
     ensures bounded { λ r. ⌜ r .value ≤ 1048576 ⌝ }
 {
-    let o = open_text(s, c, 9, b"IPositio", b"Position", 1, 2);
+    // IPosition
+    let o = open(s, c, 9, 0x49506f736974696f, 0x506f736974696f6e, 1, 2);
     let n = number(s, o.next, Width::Four, 1, 8);
     let k = judge(n.next, o.next.at, n.value == dimensions, 5);
     let product = axes(s, k, n.value, axis_width(o.value));

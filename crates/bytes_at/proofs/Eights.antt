@@ -1,4 +1,4 @@
--- A loop that compares two lists of bytes of one length, eight at a time: their first i are the same.
+-- Two lists of bytes of one length, compared k at a time: their first i are the same.
 -- Assumes nothing.
 use mathlib.Core.Path.{_≡_, refl, sym, ap, _∙_}
 use mathlib.Core.List.{List, [], _∷_}
@@ -10,9 +10,9 @@ use lib.Dec.{eqb}
 use lib.ListN.{length, take, drop, take-append-drop, length-drop, length-append}
 use lib.Seq.{take-all, take-take, take-add, getD-drop, length-take-le, drop-at}
 use borrow.Author.Tests.{eq-eqb, ne-eqb}
-use Rattle.bytes_at.specs.Number.{bigFrom, uintOf}
+use Rattle.bytes_at.specs.Number.{bigFrom, uintOf, bigBytes}
 use Rattle.bytes_at.specs.Bytes.{sameBytes, joined, Joins}
-use Rattle.bytes_at.proofs.Numbers.{Bytes, big-take, joined-bytes}
+use Rattle.bytes_at.proofs.Numbers.{Bytes, big-take, joined-bytes, bytes-length, number-bytes, number-of}
 use Rattle.bytes_at.proofs.Comparing.{same-self, unlike}
 
 -- bytes that give one number are the same
@@ -33,32 +33,32 @@ pub record Alike (a b : List ℕ) (i : ℕ) : Type 0 where
 pub alike-none : (a b : List ℕ) → length a ≡ length b → Alike a b 0
 alike-none a b e = record { long = e; same = refl }
 
-module _ (a b : List ℕ) (f : Bytes a) (g : Bytes b) {x y : ℕ} (i : ℕ) (p : x ≡ uintOf true 8 a i) (q : y ≡ uintOf true 8 b i) where
+module _ (a b : List ℕ) (f : Bytes a) (g : Bytes b) (k : ℕ) {x y : ℕ} (i : ℕ) (p : x ≡ uintOf true k a i) (q : y ≡ uintOf true k b i) where
   pub alike-not : (x ≡ y → ⊥) → false ≡ sameBytes a b
-  alike-not h = sym (unlike a b (λ e. h (p ∙ ap (λ (l : List ℕ). uintOf true 8 l i) e ∙ sym q)))
+  alike-not h = sym (unlike a b (λ e. h (p ∙ ap (λ (l : List ℕ). uintOf true k l i) e ∙ sym q)))
 
-  eight : i + 8 ≤ length a → i + 8 ≤ length b → x ≡ y → take 8 (drop i a) ≡ take 8 (drop i b)
+  piece : i + k ≤ length a → i + k ≤ length b → x ≡ y → take k (drop i a) ≡ take k (drop i b)
   unfolding uintOf
-  eight h k e =
-      big-same 0 0 8 (drop i a) (drop i b)
+  piece h l e =
+      big-same 0 0 k (drop i a) (drop i b)
       (simp length-drop (omega arith)) (simp length-drop (omega arith))
       (λ j. rw getD-drop (f (i + j))) (λ j. rw getD-drop (g (i + j)))
       (sym p ∙ e ∙ q) .1
 
-  pub alike-more : Alike a b i → i + 8 ≤ length a → x ≡ y → Alike a b (i + 8)
+  pub alike-more : Alike a b i → i + k ≤ length a → x ≡ y → Alike a b (i + k)
   alike-more v h e =
-      let k = eight h (omega (arith, v .long)) e in
-      record { long = v .long; same = rw (take-add i 8 a, take-add i 8 b) (cc) }
+      let l = piece h (omega (arith, v .long)) e in
+      record { long = v .long; same = rw (take-add i k a, take-add i k b) (cc) }
 
-  -- the last eight, of which some may have been compared
-  module _ {j : ℕ} (v : Alike a b j) (l : i ≤ j) (h : i + 8 ≡ length a) where
+  -- the last k, of which some may have been compared
+  module _ {j : ℕ} (v : Alike a b j) (l : i ≤ j) (h : i + k ≡ length a) where
     front : take i a ≡ take i b
     front = sym (take-take i j a l) ∙ ap (take i) (v .same) ∙ take-take i j b l
 
     back : x ≡ y → drop i a ≡ drop i b
     back e =
-        let k : i + 8 ≡ length b = omega (arith, v .long) in
-        sym (take-all 8 (drop i a) (simp length-drop (omega arith))) ∙ eight (omega arith) (omega arith) e ∙ take-all 8 (drop i b) (simp length-drop (omega arith))
+        let m : i + k ≡ length b = omega (arith, v .long) in
+        sym (take-all k (drop i a) (simp length-drop (omega arith))) ∙ piece (omega arith) (omega arith) e ∙ take-all k (drop i b) (simp length-drop (omega arith))
 
     whole : x ≡ y → a ≡ b
     whole e = cc (take-append-drop i a, take-append-drop i b, front, back e)
@@ -66,29 +66,31 @@ module _ (a b : List ℕ) (f : Bytes a) (g : Bytes b) {x y : ℕ} (i : ℕ) (p :
     pub alike-last : eqb x y ≡ sameBytes a b
     alike-last = elim (ℕ-discrete x y) [ yes e ↦ rw (eq-eqb x y e, ← (whole e)) (sym (same-self a)) | no n ↦ rw (ne-eqb x y n) (alike-not n) ]
 
--- a text whose first eight and last eight bytes are given
-head-length : {n : ℕ} {first last : List ℕ} → Joins n first last → length (take (n - 8) first) ≡ n - 8
-head-length {n} {first} j = length-take-le (n - 8) first (omega arith)
+-- a text whose first k and last k bytes are held in two numbers
+module _ {k n first last : ℕ} (j : Joins k n first last) where
+  head-length : length (take (n - k) (bigBytes k first)) ≡ n - k
+  head-length = length-take-le (n - k) (bigBytes k first) (omega (arith, bytes-length k first, j .most))
 
-pub text-length : {n : ℕ} {first last : List ℕ} → Joins n first last → length (joined n first last) ≡ n
-text-length j = rw (length-append, head-length j) (omega arith)
+  pub text-length : length (joined k n first last) ≡ n
+  text-length = rw (length-append, head-length, bytes-length) (omega (arith, j .least))
 
-module _ (a : List ℕ) (n : ℕ) (first last : List ℕ) (f : Bytes a) (g : Bytes first) (h : Bytes last) (j : Joins n first last) where
-  module _ {x y : ℕ} (u : x ≡ uintOf true 8 a 0) (v : y ≡ uintOf true 8 first 0) where
-    first-of : y ≡ uintOf true 8 (joined n first last) 0
-    unfolding uintOf
-    first-of = v ∙ ap (bigFrom 0 8) (sym (j .agree)) ∙ big-take 0 8 8 (joined n first last) (omega arith)
+  text-bytes : Bytes (joined k n first last)
+  text-bytes = joined-bytes (n - k) (bigBytes k first) (bigBytes k last) (number-bytes k first) (number-bytes k last)
 
-    pub text-not : (x ≡ y → ⊥) → false ≡ sameBytes a (joined n first last)
-    text-not = alike-not a (joined n first last) f (joined-bytes (n - 8) first last g h) 0 u first-of
+  first-of : first ≡ uintOf true k (joined k n first last) 0
+  unfolding uintOf
+  first-of = sym (number-of k first (j .first-fits)) ∙ ap (bigFrom 0 k) (sym (j .agree)) ∙ big-take 0 k k (joined k n first last) (omega arith)
 
-    module _ {z w : ℕ} (k : length a ≡ n) (e : x ≡ y) (r : z ≡ uintOf true 8 a (n - 8)) (t : w ≡ uintOf true 8 last 0) where
-      last-of : w ≡ uintOf true 8 (joined n first last) (n - 8)
-      unfolding uintOf
-      last-of = t ∙ ap (bigFrom 0 8) (sym (drop-at (take (n - 8) first) last (n - 8) (head-length j)))
+  last-of : last ≡ uintOf true k (joined k n first last) (n - k)
+  unfolding uintOf
+  last-of = sym (number-of k last (j .last-fits)) ∙ ap (bigFrom 0 k) (sym (drop-at (take (n - k) (bigBytes k first)) (bigBytes k last) (n - k) head-length))
 
-      pub text-last : eqb z w ≡ sameBytes a (joined n first last)
-      text-last =
-          alike-last a (joined n first last) f (joined-bytes (n - 8) first last g h) (n - 8) r last-of
-          (alike-more a (joined n first last) f (joined-bytes (n - 8) first last g h) 0 u first-of (alike-none a (joined n first last) (k ∙ sym (text-length j))) (omega arith) e)
-          (omega arith) (omega arith)
+  module _ (a : List ℕ) (f : Bytes a) {x : ℕ} (u : x ≡ uintOf true k a 0) where
+    pub text-not : (x ≡ first → ⊥) → false ≡ sameBytes a (joined k n first last)
+    text-not = alike-not a (joined k n first last) f text-bytes k 0 u first-of
+
+    pub text-last : {z : ℕ} → length a ≡ n → x ≡ first → z ≡ uintOf true k a (n - k) → eqb z last ≡ sameBytes a (joined k n first last)
+    text-last l e r =
+        alike-last a (joined k n first last) f text-bytes k (n - k) r last-of
+        (alike-more a (joined k n first last) f text-bytes k 0 u first-of (alike-none a (joined k n first last) (l ∙ sym text-length)) (omega (arith, j .least)) e)
+        (omega (arith, j .most)) (omega (arith, j .least))

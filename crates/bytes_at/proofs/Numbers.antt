@@ -2,14 +2,15 @@
 use mathlib.Core.Path.{_≡_, refl, sym, ap, _∙_}
 use mathlib.Core.List.{List, [], _∷_, _++_}
 use mathlib.Core.Bool.{Bool, true, false}
-use Prim.Native.Nat.{ℕ, zero, suc, _+_, _*_, _≤_, _<_}
+use Prim.Native.Nat.{ℕ, zero, suc, _+_, _*_, _/_, _%_, _^_, _≤_, _<_}
 use native.Mathlib.Decide.{decLe}
 use native.Mathlib.Omega.{arith}
+use native.Mathlib.Nat.{div-one, div-div-eq-div-mul, pow-suc}
 use lib.ListN.{length, getD, take, drop, length-drop}
 use lib.Seq.{drop-cons, drop-drop, getD-drop}
 use mir.Val.{Fits}
 use mir.Syntax.{w8}
-use Rattle.bytes_at.specs.Number.{bigFrom, littleFrom, uintOf}
+use Rattle.bytes_at.specs.Number.{bigFrom, littleFrom, uintOf, bigBytes}
 
 -- the n bytes at place `at + k` and on, most significant byte first, after a
 abbrev pub bigAt : ℕ → ℕ → List ℕ → ℕ → ℕ → ℕ
@@ -149,3 +150,24 @@ part-number s start n k i e h = e ∙ ap (bigFrom 0 k) (sym (drop-drop i start s
 
 pub part-first : (s : List ℕ) (start n k : ℕ) {x : ℕ} → x ≡ uintOf true k s start → k ≤ n → x ≡ uintOf true k (take n (drop start s)) 0
 part-first s start n k e h = let z : start ≡ start + 0 = omega arith in part-number s start n k 0 (e ∙ ap (uintOf true k s) z) (omega arith)
+
+-- the bytes of a number
+pub bytes-length : (n x : ℕ) → length (bigBytes n x) ≡ n
+bytes-length zero x = refl
+bytes-length (suc n) x = ap suc (bytes-length n x)
+
+pub number-bytes : (n x : ℕ) → Bytes (bigBytes n x)
+number-bytes zero x i = omega arith
+number-bytes (suc n) x zero = omega arith
+number-bytes (suc n) x (suc i) = number-bytes n x i
+
+-- they are read as that number
+rest-of : (n x : ℕ) → bigFrom (x / 256 ^ n) n (bigBytes n x) ≡ x
+unfolding bigFrom
+rest-of zero x = div-one x
+rest-of (suc n) x =
+    let e : x / (256 ^ n * 256) * 256 + (x / 256 ^ n) % 256 ≡ x / 256 ^ n = omega (arith, div-div-eq-div-mul x (256 ^ n) 256) in
+    rw (pow-suc 256 n) (ap (λ (a : ℕ). bigFrom a n (bigBytes n x)) e ∙ rest-of n x)
+
+pub number-of : (n x : ℕ) → x / 256 ^ n ≡ 0 → bigFrom 0 n (bigBytes n x) ≡ x
+number-of n x h = ap (λ (a : ℕ). bigFrom a n (bigBytes n x)) (sym h) ∙ rest-of n x

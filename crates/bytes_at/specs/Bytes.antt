@@ -1,12 +1,13 @@
 -- Lists of bytes.
-use Prim.Native.Nat.{ℕ, _-_, _≤_}
+use Prim.Native.Nat.{ℕ, _+_, _-_, _/_, _^_, _≤_}
 use mathlib.Core.Path.{_≡_}
 use Prim.Native.Char.{code}
 use Prim.Native.String.{String, [] as end, _∷_ as _next_}
 use mathlib.Core.List.{List, [], _∷_, _++_}
-use mathlib.Core.Bool.{Bool, true, false, _&&_}
-use lib.Dec.{eqb}
-use lib.ListN.{length, take}
+use mathlib.Core.Bool.{Bool, true, false, cond, _&&_}
+use lib.Dec.{eqb, leb}
+use lib.ListN.{take}
+use Rattle.bytes_at.specs.Number.{bigBytes}
 
 -- the bytes of a quoted ASCII text
 abbrev pub bytes : String → List ℕ
@@ -20,14 +21,22 @@ sameBytes [] (y ∷ ys) = false
 sameBytes (x ∷ xs) [] = false
 sameBytes (x ∷ xs) (y ∷ ys) = eqb x y && sameBytes xs ys
 
--- a text of n bytes, 8 to 16, of which the first eight and the last eight are given
-abbrev pub joined : ℕ → List ℕ → List ℕ → List ℕ
-joined n first last = take (n - 8) first ++ last
+-- a text of n bytes of which two numbers hold the first k and the last k
+abbrev pub joined : ℕ → ℕ → ℕ → ℕ → List ℕ
+joined k n first last = take (n - k) (bigBytes k first) ++ bigBytes k last
 
--- there is such a text: where the two overlap they agree
-pub record Joins (n : ℕ) (first last : List ℕ) : Type 0 where
-  pub least : 8 ≤ n
-  pub most : n ≤ 16
-  pub first-eight : length first ≡ 8
-  pub last-eight : length last ≡ 8
-  pub agree : take 8 (joined n first last) ≡ first
+-- there is such a text: the numbers have k bytes, and where the two overlap they agree
+pub record Joins (k n first last : ℕ) : Type 0 where
+  pub least : k ≤ n
+  pub most : n ≤ k + k
+  pub first-fits : first / 256 ^ k ≡ 0
+  pub last-fits : last / 256 ^ k ≡ 0
+  pub agree : take k (joined k n first last) ≡ bigBytes k first
+
+-- how many bytes of either end of a text, of n bytes, a number holds: eight, or four where n is below eight
+abbrev pub endOf : ℕ → ℕ
+endOf n = cond (leb 8 n) 8 4
+
+-- the text of n bytes, 4 to 16, whose ends two numbers hold
+abbrev pub textOf : ℕ → ℕ → ℕ → List ℕ
+textOf n first last = joined (endOf n) n first last

@@ -1,5 +1,5 @@
 -- Numbers in bytes.
-use Prim.Native.Nat.{ℕ, zero, suc, _+_, _*_}
+use Prim.Native.Nat.{ℕ, zero, suc, _+_, _*_, _/_, _%_, _^_}
 use mathlib.Core.List.{List, [], _∷_}
 use mathlib.Core.Bool.{Bool, true, false}
 use lib.ListN.{drop}
@@ -22,6 +22,11 @@ littleFrom a unit (suc n) (x ∷ l) = littleFrom (a + x * unit) (unit * 256) n l
 unfoldable pub uintOf : Bool → ℕ → List ℕ → ℕ → ℕ
 uintOf true n s at = bigFrom 0 n (drop at s)
 uintOf false n s at = littleFrom 0 1 n (drop at s)
+
+-- the n bytes of a number, most significant byte first
+abbrev pub bigBytes : ℕ → ℕ → List ℕ
+bigBytes zero x = []
+bigBytes (suc n) x = (x / 256 ^ n) % 256 ∷ bigBytes n x
 
 -- how many bytes a width is
 abbrev pub bytesOf : Width → ℕ

@@ -6,7 +6,7 @@ ghost use lib.Dec.{leb};
 ghost use lib.ListN.{length, take, drop, replicate};
 ghost use lib.Seq.{paste};
 ghost use Rattle.bytes_at.specs.Number.{uintOf, bytesOf};
-ghost use Rattle.bytes_at.specs.Bytes.{sameBytes, joined, Joins};
+ghost use Rattle.bytes_at.specs.Bytes.{sameBytes, joined, Joins, endOf, textOf};
 
 // How many bytes a number has.
 pub enum Width {
@@ -221,35 +221,56 @@ pub fn is_at(s: &[u8], start: usize, len: usize, expected: &[u8]) -> bool
     many_at(s, start, expected)
 }
 
-// Whether a text of n bytes, whose first eight and last eight are given, stands at a place where there are as many.
-fn text_at(s: &[u8], start: usize, n: usize, first: &[u8], last: &[u8]) -> bool
-    requires { ⌜ (Joins n (now first) (now last)) × (n ≤ length (now s) - start) ⌝ }
-    ensures { λ r. ⌜ r ≡ sameBytes (take n (drop start (now (s .entry)))) (joined n (now (first .entry)) (now (last .entry))) ⌝ }
+// Whether a text of n bytes, whose first eight and last eight are held in two numbers, stands at a place where there are as
+// many bytes.
+fn eights_at(s: &[u8], start: usize, n: usize, first: usize, last: usize) -> bool
+    requires { ⌜ (Joins 8 n first last) × (n ≤ length (now s) - start) ⌝ }
+    ensures { λ r. ⌜ r ≡ sameBytes (take n (drop start (now (s .entry)))) (joined 8 n first last) ⌝ }
 {
     let tail = n - 8;
-    if big_long(s, start) != big_long(first, 0) {
+    if big_long(s, start) != first {
         return false;
     }
-    big_long(s, start + tail) == big_long(last, 0)
+    big_long(s, start + tail) == last
 }
 
-// Whether the len bytes from start, or as many of them as there are, are a text of n bytes whose first eight and last eight
-// are given. Quicker than `is_at` for a text that the source has: there is no slice to make.
-pub fn is_text(
-    s: &[u8],
-    start: usize,
-    len: usize,
-    n: usize,
-    first: &[u8; 8],
-    last: &[u8; 8],
-) -> bool
-    requires { ⌜ Joins n (now first) (now last) ⌝ }
-    ensures { λ r. ⌜ r ≡ sameBytes (take len (drop start (now (s .entry)))) (joined n (now (first .entry)) (now (last .entry))) ⌝ }
+// The same of a text whose first four and last four bytes are held in two numbers.
+fn fours_at(s: &[u8], start: usize, n: usize, first: usize, last: usize) -> bool
+    requires { ⌜ (Joins 4 n first last) × (n ≤ length (now s) - start) ⌝ }
+    ensures { λ r. ⌜ r ≡ sameBytes (take n (drop start (now (s .entry)))) (joined 4 n first last) ⌝ }
+{
+    let tail = n - 4;
+    if big_word(s, start) != first {
+        return false;
+    }
+    big_word(s, start + tail) == last
+}
+
+// Whether the len bytes from start, or as many of them as there are, are a text of n bytes, 8 to 16, whose first eight and
+// last eight are held in two numbers. Quicker than `is_at` for a text that the source has: there is no slice to make.
+pub fn is_long_text(s: &[u8], start: usize, len: usize, n: usize, first: usize, last: usize) -> bool
+    requires { ⌜ Joins 8 n first last ⌝ }
+    ensures { λ r. ⌜ r ≡ sameBytes (take len (drop start (now (s .entry)))) (joined 8 n first last) ⌝ }
 {
     if part_len(s, start, len) != n {
         return false;
     }
-    text_at(s, start, n, first, last)
+    eights_at(s, start, n, first, last)
+}
+
+// The same of a text of 4 to 16 bytes; of one below 8 the numbers hold the first four and the last four. The two are apart since
+// the compiler inlines the smaller one wherever it is called, and this one where it has one caller.
+pub fn is_text(s: &[u8], start: usize, len: usize, n: usize, first: usize, last: usize) -> bool
+    requires { ⌜ Joins (endOf n) n first last ⌝ }
+    ensures { λ r. ⌜ r ≡ sameBytes (take len (drop start (now (s .entry)))) (textOf n first last) ⌝ }
+{
+    if part_len(s, start, len) != n {
+        return false;
+    }
+    if n < 8 {
+        return fours_at(s, start, n, first, last);
+    }
+    eights_at(s, start, n, first, last)
 }
 
 // Whether two slices hold the same bytes.

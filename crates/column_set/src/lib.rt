@@ -93,10 +93,26 @@ pub struct Infos {
 pub fn kind_of(name: &[u8]) -> Kind
     ensures { λ r. ⌜ r ≡ kindOf (now (name .entry)) ⌝ }
 {
-    if bytes_at::is_text(name, 0, name.len(), 13, b"Standard", b"ardStMan") {
+    // StandardStMan
+    if bytes_at::is_long_text(
+        name,
+        0,
+        name.len(),
+        13,
+        0x5374616e64617264,
+        0x61726453744d616e,
+    ) {
         return Kind::Standard;
     }
-    if bytes_at::is_text(name, 0, name.len(), 16, b"Incremen", b"talStMan") {
+    // IncrementalStMan
+    if bytes_at::is_long_text(
+        name,
+        0,
+        name.len(),
+        16,
+        0x496e6372656d656e,
+        0x74616c53744d616e,
+    ) {
         return Kind::Incremental;
     }
     Kind::Other

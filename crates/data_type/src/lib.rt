@@ -258,7 +258,8 @@ fn is_scalar(s: &[u8]) -> bool
     if s.len() < 17 {
         return false;
     }
-    if bytes_at::is_text(s, 0, 16, 16, b"ScalarCo", b"lumnDesc") {
+    // ScalarColumnDesc
+    if bytes_at::is_long_text(s, 0, 16, 16, 0x5363616c6172436f, 0x6c756d6e44657363) {
         return s[16] == b'<';
     }
     false
@@ -268,7 +269,7 @@ fn is_scalar(s: &[u8]) -> bool
 fn is_array(s: &[u8]) -> bool
     ensures { λ r. ⌜ r ≡ sameBytes (take 16 (now (s .entry))) (bytes "ArrayColumnDesc<") ⌝ }
 {
-    bytes_at::is_text(s, 0, 16, 16, b"ArrayCol", b"umnDesc<")
+    bytes_at::is_long_text(s, 0, 16, 16, 0x4172726179436f6c, 0x756d6e446573633c)
 }
 
 // What a column type string says: ScalarColumnDesc<T or ArrayColumnDesc<T.

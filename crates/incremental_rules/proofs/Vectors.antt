@@ -7,7 +7,7 @@ use mathlib.Core.List.{List, [], _∷_, _++_}
 use mathlib.Core.Bool.{Bool, true, false}
 use Prim.Native.Nat.{ℕ}
 use lib.ListN.{take, set, replicate}
-use Rattle.bytes_at.specs.Number.{bigFrom, uintOf}
+use Rattle.bytes_at.specs.Number.{bigFrom, uintOf, bigBytes as row}
 use Rattle.bytes_at.specs.Bytes.{sameBytes}
 use Rattle.bytes_at.specs.Loop.{after}
 use Rattle.bytes_at.specs.Stages.{_▷_, orNo}
@@ -25,7 +25,7 @@ use Rattle.row_index.specs.Numbers.{numbersAt}
 use Rattle.marks.specs.Different.{allApart}
 use Rattle.incremental_text.specs.Header.{fieldsAt, headed, headerIn}
 use Rattle.incremental_text.specs.Index.{indexed, indexIn}
-use Rattle.incremental_text.proofs.Vectors.{row, header, object}
+use Rattle.incremental_text.proofs.Vectors.{header, object}
 use Rattle.incremental_values.specs.Values.{startFits, started, startInto, startsAt, offsetInto, offsetsAt}
 use Rattle.incremental_bucket.specs.Bucket.{dataAt, columnAt, columnInto, columnsAt, bucketAt}
 use Rattle.incremental_bucket.specs.Value.{lastBelow}

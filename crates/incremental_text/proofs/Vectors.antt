@@ -3,20 +3,15 @@
 use mathlib.Core.Path.{_≡_, refl}
 use mathlib.Core.List.{List, [], _∷_, _++_}
 use mathlib.Core.Bool.{true, false}
-use Prim.Native.Nat.{ℕ, zero, suc, _^_, _/_, _%_}
+use Prim.Native.Nat.{ℕ}
 use lib.ListN.{take, set}
-use Rattle.bytes_at.specs.Number.{bigFrom, uintOf}
+use Rattle.bytes_at.specs.Number.{bigFrom, uintOf, bigBytes as row}
 use Rattle.bytes_at.specs.Bytes.{sameBytes}
 use Rattle.bytes_at.specs.Steps.{_>>=_}
 use Rattle.aipsio.specs.Field.{skipped, skippedEach, judged, settled, sizedAt, uintAt, rangedAt, agreed, markAt, textBefore, textAt, nameAt}
 use Rattle.aipsio.specs.Object.{entered, opened, closed, blockAt}
 use Rattle.incremental_text.specs.Header.{fieldsAt, headed, headerIn, headerAt}
 use Rattle.incremental_text.specs.Index.{indexed, indexIn, indexAt}
-
--- the n bytes of a number, the highest first
-abbrev pub row : ℕ → ℕ → List ℕ
-row zero x = []
-row (suc n) x = (x / 256 ^ n) % 256 ∷ row n x
 
 -- the mark and the header object: big endian, 3 buckets of 64 bytes, bucket 2 free
 abbrev pub header : List ℕ

@@ -40,7 +40,8 @@ fn read_fields(s: &[u8], c: Cursor, big: bool) -> HeaderFields
     ensures { λ r. ⌜ r ≡ fieldsAt (now (s .entry)) c big ⌝ }
     ensures words { λ r. ⌜ (r .«free_count» < 4294967296) × (r .«first_free» < 4294967296) ⌝ }
 {
-    let o = aipsio::open_text(s, c, 16, b"Incremen", b"talStMan", 5, 5);
+    // IncrementalStMan
+    let o = aipsio::open(s, c, 16, 0x496e6372656d656e, 0x74616c53744d616e, 5, 5);
     let flag = aipsio::flag(s, o.next);
     let same = manager_file::same_endian(flag.value, big);
     let d = aipsio::judge(flag.next, o.next.at, same, 6);
@@ -135,7 +136,8 @@ pub fn read_index(f: &[u8], at: usize) -> Index
         refused: 0,
     };
     let m = aipsio::mark(f, start);
-    let o = aipsio::open_text(f, m, 8, b"ISMIndex", b"ISMIndex", 1, 1);
+    // ISMIndex
+    let o = aipsio::open(f, m, 8, 0x49534d496e646578, 0x49534d496e646578, 1, 1);
     let n = aipsio::uint(f, o.next);
     let firsts = aipsio::block(f, n.next, n.value + 1, 4);
     let buckets = aipsio::block(f, firsts.next, n.value, 4);

@@ -3,9 +3,9 @@
 use mathlib.Core.Path.{_≡_, refl}
 use mathlib.Core.List.{List, [], _∷_, _++_}
 use mathlib.Core.Bool.{true, false}
-use Prim.Native.Nat.{ℕ, zero, suc, _^_, _/_, _%_}
+use Prim.Native.Nat.{ℕ}
 use lib.ListN.{take, set, replicate}
-use Rattle.bytes_at.specs.Number.{bigFrom, uintOf}
+use Rattle.bytes_at.specs.Number.{bigFrom, uintOf, bigBytes as row}
 use Rattle.bytes_at.specs.Bytes.{sameBytes}
 use Rattle.bytes_at.specs.Loop.{after}
 use Rattle.bytes_at.specs.Steps.{_>>=_}
@@ -15,11 +15,6 @@ use Rattle.aipsio.specs.Object.{entered, opened, closed, blockAt, mapAt}
 use Rattle.manager_file.specs.Start.{longEnough}
 use Rattle.standard_text.specs.Header.{bucketFieldsAt, indexFieldsAt, headed, headerIn, headerAt}
 use Rattle.standard_text.specs.Index.{setAt, noSet, setInto, setsAt, indexed, indexIn, indexAt}
-
--- the n bytes of a number, the highest first
-abbrev row : ℕ → ℕ → List ℕ
-row zero x = []
-row (suc n) x = (x / 256 ^ n) % 256 ∷ row n x
 
 -- the mark and the header object
 abbrev pub header : List ℕ

@@ -81,7 +81,8 @@ fn read_bucket_fields(s: &[u8], c: Cursor, big: bool) -> BucketFields
     ensures { λ r. ⌜ r ≡ bucketFieldsAt (now (s .entry)) c big ⌝ }
     ensures words { λ r. ⌜ (r .«free_count» < 4294967296) × (r .«first_free» < 4294967296) ⌝ }
 {
-    let o = aipsio::open_text(s, c, 13, b"Standard", b"ardStMan", 3, 3);
+    // StandardStMan
+    let o = aipsio::open(s, c, 13, 0x5374616e64617264, 0x61726453744d616e, 3, 3);
     let flag = aipsio::flag(s, o.next);
     let same = manager_file::same_endian(flag.value, big);
     let d = aipsio::judge(flag.next, o.next.at, same, 6);
@@ -192,7 +193,8 @@ fn read_set(s: &[u8], c: Cursor, width: Width) -> SetRead
     ensures { λ r. ⌜ r ≡ setAt (now (s .entry)) c width ⌝ }
 {
     let m = aipsio::mark(s, c);
-    let o = aipsio::open_text(s, m, 8, b"SSMIndex", b"SSMIndex", 1, 1);
+    // SSMIndex
+    let o = aipsio::open(s, m, 8, 0x53534d496e646578, 0x53534d496e646578, 1, 1);
     let entries = aipsio::uint(s, o.next);
     let per = aipsio::number(s, entries.next, Width::Four, 1, 8388608);
     let columns = aipsio::uint(s, per.next);

@@ -45,7 +45,7 @@ fn read_head(s: &[u8], c: Cursor) -> Head
 {
     let rows = aipsio::number(s, c, Width::Four, 0, 2147483647);
     let endian = aipsio::code(s, rows.next, 0, 1);
-    let kind = aipsio::text_name(s, endian.next, 10, b"PlainTab", b"ainTable");
+    let kind = aipsio::name(s, endian.next, b"PlainTable");
     Head {
         rows: rows.value,
         big: endian.value == 1,
@@ -103,9 +103,19 @@ pub fn describe(s: &[u8]) -> Description
     };
     let c = aipsio::judge(whole, 65536, s.len() <= 65536, 4);
     let m = aipsio::mark(s, c);
-    let t = aipsio::open(s, m, b"Table", 2, 2);
+    // Table
+    let t = aipsio::open(s, m, 5, 0x5461626c, 0x61626c65, 2, 2);
     let head = read_head(s, t.next);
-    let o = aipsio::open_text(s, head.next, 9, b"TableDes", b"ableDesc", 2, 2);
+    // TableDesc
+    let o = aipsio::open(
+        s,
+        head.next,
+        9,
+        0x5461626c65446573,
+        0x61626c6544657363,
+        2,
+        2,
+    );
     let n = read_desc_head(s, o.next);
     let cs = column_desc::read_columns(s, n.next, n.count);
     let e = aipsio::close(cs.next, head.next);

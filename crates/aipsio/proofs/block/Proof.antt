@@ -15,4 +15,4 @@ returns c =
     c .settle .ensures .0))))
 
 pub block-spec : {M : Type 1} → statement M
-block-spec = tie.close (tie.spec (λ c. search needs) free free (λ c κs. search needs) free free returns)
+block-spec = tie.close (tie.spec (λ c κs. search needs) free (λ c κs. search needs) free free returns)

@@ -9,7 +9,7 @@ use Rattle.aipsio.proofs.iposition.Tie as tie
 returns : tie.Need-returns
 unfolding ipositionAt
 returns c =
-    via _ (c .before .before .before .before .before .open-text .ensures) (
+    via _ (c .before .before .before .before .before .«open» .ensures) (
     via _ (c .before .before .before .before .uint .ensures .0) (
     via _ (c .before .before .before .axis-width .ensures) (
     via _ (c .before .before .bytes .ensures .0) (

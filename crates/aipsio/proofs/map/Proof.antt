@@ -8,7 +8,7 @@ use Rattle.aipsio.proofs.map.Tie as tie
 returns : tie.Need-returns
 unfolding mapAt
 returns c =
-    via _ (c .before .before .before .before .before .open-text .ensures) (
+    via _ (c .before .before .before .before .before .«open» .ensures) (
     via _ (c .before .before .before .before .uint .ensures .0) (
     via _ (c .before .before .before .uint2 .ensures .0) (
     via _ (c .before .before .uint3 .ensures .0) (

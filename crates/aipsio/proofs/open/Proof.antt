@@ -1,4 +1,5 @@
 -- `aipsio::open` meets its contract: its calls compose as the definition says.
+use borrow.Author.Needs.{needs}
 use Rattle.bytes_at.proofs.Stepped.{via, free}
 use Rattle.aipsio.specs.Object.{opened}
 use Rattle.aipsio.proofs.open.Statement.{statement}
@@ -8,10 +9,10 @@ returns : tie.Need-returns
 unfolding opened
 returns c =
     via _ (c .before .before .before .before .uint .ensures .0) (
-    via _ (c .before .before .before .name .ensures) (
+    via _ (c .before .before .before .text-name .ensures) (
     via _ (c .before .before .version .ensures) (
     via _ (c .before .enter .ensures) (
     c .settle .ensures .0))))
 
 pub open-spec : {M : Type 1} → statement M
-open-spec = tie.close (tie.spec free free free free free returns)
+open-spec = tie.close (tie.spec free (λ c κs. search needs) free free free returns)

@@ -8,7 +8,7 @@ use Rattle.aipsio.proofs.record.Tie as tie
 returns : tie.Need-returns
 unfolding recordAt
 returns c =
-    via _ (c .before .open-text .ensures) (
+    via _ (c .before .«open» .ensures) (
     c .pass .ensures)
 
 pub record-spec : {M : Type 1} → statement M

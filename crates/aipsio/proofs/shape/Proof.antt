@@ -10,7 +10,7 @@ returns : tie.Need-returns
 unfolding shapeAt
 returns c =
     at-most (shape-le _ _ _) (
-    via _ (c .before .before .before .before .before .before .before .open-text .ensures) (
+    via _ (c .before .before .before .before .before .before .before .«open» .ensures) (
     via _ (c .before .before .before .before .before .before .number .ensures .0) (
     via _ (c .before .before .before .before .judge .ensures) (
     via _ (c .before .before .before .axis-width .ensures) (

@@ -25,7 +25,7 @@ returns c =
     let k = c .before .before .before .before .before in
     let l = c .before .before .before .before .loop in
     let a = k .before .before .args in
-    alike-not _ _ (part-bytes (now (a .s)) (a .start) (length (now (a .expected))) (k .before .shared-slice-known .given)) (k .shared-slice-known2 .given) (l .i)
+    alike-not _ _ (part-bytes (now (a .s)) (a .start) (length (now (a .expected))) (k .before .shared-slice-known .given)) (k .shared-slice-known2 .given) 8 (l .i)
     (part-number (now (a .s)) (a .start) (length (now (a .expected))) 8 (l .i) (c .before .before .big-long .ensures) (omega arith)) (c .before .big-long2 .ensures) (c .if1 .taken)
 
 loop-again : tie.Need-loop-again Inv-loop μ-loop
@@ -34,7 +34,7 @@ loop-again c =
     let l = c .before .before .before .before .loop in
     let a = k .before .before .args in (
       omega arith,
-      alike-more _ _ (part-bytes (now (a .s)) (a .start) (length (now (a .expected))) (k .before .shared-slice-known .given)) (k .shared-slice-known2 .given) (l .i)
+      alike-more _ _ (part-bytes (now (a .s)) (a .start) (length (now (a .expected))) (k .before .shared-slice-known .given)) (k .shared-slice-known2 .given) 8 (l .i)
           (part-number (now (a .s)) (a .start) (length (now (a .expected))) 8 (l .i) (c .before .before .big-long .ensures) (omega arith)) (c .before .big-long2 .ensures)
           (l .inv .1) (simp (part-length (now (a .s)) (a .start) (length (now (a .expected))) (omega arith)) (omega arith)) (c .if1 .left),
     )
@@ -44,7 +44,7 @@ returns-2 c =
     let k = c .before .before .before .before in
     let l = c .before .before .before .loop in
     let a = k .before .before .args in
-    alike-last _ _ (part-bytes (now (a .s)) (a .start) (length (now (a .expected))) (k .before .shared-slice-known .given)) (k .shared-slice-known2 .given) (length (now (a .expected)) - 8)
+    alike-last _ _ (part-bytes (now (a .s)) (a .start) (length (now (a .expected))) (k .before .shared-slice-known .given)) (k .shared-slice-known2 .given) 8 (length (now (a .expected)) - 8)
     (part-number (now (a .s)) (a .start) (length (now (a .expected))) 8 (length (now (a .expected)) - 8) (c .before .big-long3 .ensures) (omega arith)) (c .big-long4 .ensures)
     (l .inv .1) (omega arith) (omega (arith, part-length (now (a .s)) (a .start) (length (now (a .expected))) (omega arith)))
 

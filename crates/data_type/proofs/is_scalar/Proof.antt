@@ -12,11 +12,11 @@ returns c = too-short (bytes "ScalarColumnDesc<") (now (c .before .before .args 
 
 returns-2 : tie.Need-returns-2
 returns-2 c =
-    let s = now (c .before .before .before .before .before .before .before .args .s) in
-    split-on (bytes "ScalarColumnDesc") (bytes "<") s 1 (c .before .before .is-text .ensures) (c .before .if2 .taken) (one-byte 60 s 16 (omega arith))
+    let s = now (c .before .before .before .before .before .args .s) in
+    split-on (bytes "ScalarColumnDesc") (bytes "<") s 1 (c .before .before .is-long-text .ensures) (c .before .if2 .taken) (one-byte 60 s 16 (omega arith))
 
 returns-3 : tie.Need-returns-3
-returns-3 c = split-out (bytes "ScalarColumnDesc") (bytes "<") (now (c .before .before .before .before .before .before .args .s)) 1 (c .before .is-text .ensures) (c .if2 .left)
+returns-3 c = split-out (bytes "ScalarColumnDesc") (bytes "<") (now (c .before .before .before .before .args .s)) 1 (c .before .is-long-text .ensures) (c .if2 .left)
 
 pub is-scalar-spec : {M : Type 1} → statement M
 is-scalar-spec = tie.close (tie.spec returns (λ c κs. search needs) (λ c. search needs) returns-2 returns-3)

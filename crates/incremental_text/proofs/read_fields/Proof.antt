@@ -9,7 +9,7 @@ use Rattle.incremental_text.proofs.read_fields.Tie as tie
 returns : tie.Need-returns
 unfolding fieldsAt
 returns c = (
-  via _ (c .before .before .before .before .before .before .before .before .before .before .open-text .ensures) (
+  via _ (c .before .before .before .before .before .before .before .before .before .before .«open» .ensures) (
       via _ (c .before .before .before .before .before .before .before .before .before .flag .ensures .0) (
       via _ (c .before .before .before .before .before .before .before .before .same-endian .ensures) (
       via _ (c .before .before .before .before .before .before .before .judge .ensures) (

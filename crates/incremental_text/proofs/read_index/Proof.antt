@@ -10,8 +10,8 @@ returns : tie.Need-returns
 unfolding indexIn
 returns c =
     index-answered _ 1 4 _ (
-    via _ (c .before .before .before .before .before .before .before .before .before .mark .ensures) (
-    via _ (c .before .before .before .before .before .before .open-text .ensures) (
+    via _ (c .before .before .before .before .before .before .before .mark .ensures) (
+    via _ (c .before .before .before .before .before .before .«open» .ensures) (
     via _ (c .before .before .before .before .before .uint .ensures .0) (
     via _ (c .before .before .before .block .ensures) (
     via _ (c .before .before .block2 .ensures) (

@@ -10,8 +10,8 @@ use Rattle.standard_text.proofs.read_set.Tie as tie
 returns : tie.Need-returns
 unfolding setAt
 returns c =
-    via _ (c .before .before .before .before .before .before .before .before .before .before .before .mark .ensures) (
-    via _ (c .before .before .before .before .before .before .before .before .open-text .ensures) (
+    via _ (c .before .before .before .before .before .before .before .before .before .mark .ensures) (
+    via _ (c .before .before .before .before .before .before .before .before .«open» .ensures) (
     via _ (c .before .before .before .before .before .before .before .uint .ensures .0) (
     via _ (c .before .before .before .before .before .before .number .ensures .0) (
     via _ (c .before .before .before .before .before .uint2 .ensures .0) (
@@ -23,4 +23,4 @@ returns c =
     refl))))))))))
 
 pub read-set-spec : {M : Type 1} → statement M
-read-set-spec = tie.close (tie.spec free (λ c κs. search needs) free free free free free (λ c κs. bytes-some (c .before .before .before .before .before .before .before .before .before .before .args .width) (c .bytes .ensures .0)) (λ c κs. search needs) free returns)
+read-set-spec = tie.close (tie.spec free (λ c κs. search needs) free free free free free (λ c κs. bytes-some (c .before .before .before .before .before .before .before .before .args .width) (c .bytes .ensures .0)) (λ c κs. search needs) free returns)

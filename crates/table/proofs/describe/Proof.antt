@@ -11,11 +11,11 @@ use Rattle.table.proofs.describe.Tie as tie
 returns : tie.Need-returns
 unfolding describedAs
 returns c = (
-  via _ (c .before .before .before .before .before .before .before .before .before .before .before .before .before .before .before .before .before .before .before .before .before .judge .ensures) (
-      via _ (c .before .before .before .before .before .before .before .before .before .before .before .before .before .before .before .before .before .before .before .before .mark .ensures) (
-      via _ (c .before .before .before .before .before .before .before .before .before .before .before .before .before .before .before .before .before .before .«open» .ensures) (
-      via _ (c .before .before .before .before .before .before .before .before .before .before .before .before .before .before .before .before .before .read-head .ensures) (
-      via _ (c .before .before .before .before .before .before .before .before .before .before .before .before .before .before .open-text .ensures) (
+  via _ (c .before .before .before .before .before .before .before .before .before .before .before .before .before .before .before .before .before .before .judge .ensures) (
+      via _ (c .before .before .before .before .before .before .before .before .before .before .before .before .before .before .before .before .before .mark .ensures) (
+      via _ (c .before .before .before .before .before .before .before .before .before .before .before .before .before .before .before .before .«open» .ensures) (
+      via _ (c .before .before .before .before .before .before .before .before .before .before .before .before .before .before .before .read-head .ensures) (
+      via _ (c .before .before .before .before .before .before .before .before .before .before .before .before .before .before .open2 .ensures) (
       via _ (c .before .before .before .before .before .before .before .before .before .before .before .before .before .read-desc-head .ensures .0) (
       via _ (c .before .before .before .before .before .before .before .before .before .before .before .before .read-columns .ensures) (
       via _ (c .before .before .before .before .before .before .before .before .before .before .before .close .ensures) (
@@ -31,11 +31,11 @@ returns c = (
 returns-2 : tie.Need-returns-2
 unfolding describedAs
 returns-2 c = (
-  via _ (c .before .before .before .before .before .before .before .before .before .before .before .before .before .before .before .before .before .before .before .before .before .before .before .before .before .judge .ensures) (
-      via _ (c .before .before .before .before .before .before .before .before .before .before .before .before .before .before .before .before .before .before .before .before .before .before .before .before .mark .ensures) (
-      via _ (c .before .before .before .before .before .before .before .before .before .before .before .before .before .before .before .before .before .before .before .before .before .before .«open» .ensures) (
-      via _ (c .before .before .before .before .before .before .before .before .before .before .before .before .before .before .before .before .before .before .before .before .before .read-head .ensures) (
-      via _ (c .before .before .before .before .before .before .before .before .before .before .before .before .before .before .before .before .before .before .open-text .ensures) (
+  via _ (c .before .before .before .before .before .before .before .before .before .before .before .before .before .before .before .before .before .before .before .before .before .before .judge .ensures) (
+      via _ (c .before .before .before .before .before .before .before .before .before .before .before .before .before .before .before .before .before .before .before .before .before .mark .ensures) (
+      via _ (c .before .before .before .before .before .before .before .before .before .before .before .before .before .before .before .before .before .before .before .before .«open» .ensures) (
+      via _ (c .before .before .before .before .before .before .before .before .before .before .before .before .before .before .before .before .before .before .before .read-head .ensures) (
+      via _ (c .before .before .before .before .before .before .before .before .before .before .before .before .before .before .before .before .before .before .open2 .ensures) (
       via _ (c .before .before .before .before .before .before .before .before .before .before .before .before .before .before .before .before .before .read-desc-head .ensures .0) (
       via _ (c .before .before .before .before .before .before .before .before .before .before .before .before .before .before .before .before .read-columns .ensures) (
       via _ (c .before .before .before .before .before .before .before .before .before .before .before .before .before .before .before .close .ensures) (
@@ -55,8 +55,7 @@ describe-spec =
     (tie.spec
     free
     free
-    (λ c. search needs)
-    free
+    (λ c κs. search needs)
     free
     (λ c κs. search needs)
     free

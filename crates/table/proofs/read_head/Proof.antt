@@ -9,10 +9,10 @@ use Rattle.table.proofs.read_head.Tie as tie
 returns : tie.Need-returns
 unfolding headAt
 returns c =
-    via _ (c .before .before .before .before .before .number .ensures .0) (
-    via _ (c .before .before .before .before .code .ensures .0) (
-    via _ (c .before .text-name .ensures) (
+    via _ (c .before .before .before .before .number .ensures .0) (
+    via _ (c .before .before .before .code .ensures .0) (
+    via _ (c .before .name .ensures) (
     refl)))
 
 pub read-head-spec : {M : Type 1} → statement M
-read-head-spec = tie.close (tie.spec free free (λ c κs. search needs) returns)
+read-head-spec = tie.close (tie.spec free free (λ c. search needs) free returns)
