@@ -2,29 +2,22 @@
 -- Assumes nothing.
 use mathlib.Core.Path.{_≡_}
 use mathlib.Core.List.{List}
-use Prim.Native.Nat.{ℕ, zero, suc, _*_, _≤_, _<_, zero-le}
+use Prim.Native.Nat.{ℕ, suc, _≤_, _<_, zero-le}
 use native.Mathlib.Decide.{ℕ-discrete}
-use native.Mathlib.Nat.{mul-le-mul}
 use native.Mathlib.Omega.{arith}
-use mir.Val.{Fits}
-use mir.Syntax.{w64}
-use mir.Facts.{fits-le, fits-lit}
 use lib.Dec.{eqb}
-use borrow.Author.Tests.{leb-true}
 use Rattle.bytes_at.specs.Number.{uintOf, bytesOf}
 use Rattle.bytes_at.specs.declared.Width.{Width}
 use Rattle.bytes_at.specs.declared.Width.the-variants.{One, Two, Four, Eight}
-use Rattle.bytes_at.specs.Loop.{after}
 use Rattle.bytes_at.specs.Steps.{_>>=_}
 use Rattle.bytes_at.proofs.Numbers.{Bytes, word-below}
 use Rattle.aipsio.specs.declared.Cursor.{Cursor}
 use Rattle.aipsio.specs.declared.Value.{Value}
 use Rattle.aipsio.specs.declared.Text.{Text}
 use Rattle.aipsio.specs.Field.{skipped, settled, uintAt, rangedAt, textBefore, stringAt}
-use Rattle.aipsio.specs.Object.{axisInto, axesAt, shapeAt}
 use Rattle.aipsio.proofs.Kept.{Clean, settled-none, text-none}
 use Rattle.aipsio.proofs.Sides.{settle-on, text-on}
-use Rattle.aipsio.proofs.Accepted.{judged-passed, judged-within}
+use Rattle.aipsio.proofs.Accepted.{judged-within}
 
 -- what is 0 where the cursor is refused
 pub settled-le : (v : ℕ) (c : Cursor) {high : ℕ} → (Clean c → v ≤ high) → settled v c .value ≤ high
@@ -47,33 +40,12 @@ pub string-le : (s : List ℕ) (c : Cursor) (low high : ℕ) → stringAt s c lo
 unfolding stringAt _>>=_
 string-le s c low high = text-le _ _ (λ e. judged-within _ _ _ low high 3 e .1)
 
-pub axis-le : (s : List ℕ) (width : ℕ) (product : Value) → axisInto s width product .value ≤ 1048576
-unfolding axisInto _>>=_
-axis-le s width product = settled-le _ _ (λ e. leb-true _ _ (judged-passed _ _ _ 3 e .1))
-
--- also after any number of turns
-pub turns-le : (s : List ℕ) (width : ℕ) (x : Value) (n : ℕ) → x .value ≤ 1048576 → after (λ (p : Value) (i : ℕ). axisInto s width p) x n .value ≤ 1048576
-unfolding after
-turns-le s width x zero h = h
-turns-le s width x (suc n) h = axis-le s width _
-
-pub axes-le : (s : List ℕ) (c : Cursor) (n width : ℕ) → axesAt s c n width .value ≤ 1048576
-unfolding axesAt
-axes-le s c n width = turns-le s width _ n (omega arith)
-
-pub shape-le : (s : List ℕ) (c : Cursor) (dimensions : ℕ) → shapeAt s c dimensions .value ≤ 1048576
-unfolding shapeAt _>>=_
-shape-le s c dimensions = settled-le _ _ (λ e. axes-le s _ _ _)
-
 -- a result that is a definition's has the definition's bound
 pub at-most : {r x : Value} {high : ℕ} → x .value ≤ high → r ≡ x → (r ≡ x) × (r .value ≤ high)
 at-most h e = (e, rw e h)
 
 pub long-at-most : {r x : Text} {high : ℕ} → x .len ≤ high → r ≡ x → (r ≡ x) × (r .len ≤ high)
 long-at-most h e = (e, rw e h)
-
-pub product-fits : {a b : ℕ} → a ≤ 1048576 → b ≤ 1048576 → Fits w64 (a * b)
-product-fits p q = fits-le (mul-le-mul p q) (fits-lit tt)
 
 pub bytes-some : {n : ℕ} (w : Width) → n ≡ bytesOf w → 0 < n
 bytes-some One e = omega arith

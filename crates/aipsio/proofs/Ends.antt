@@ -8,10 +8,9 @@ use native.Mathlib.Omega.{arith}
 use Rattle.bytes_at.specs.Steps.{_>>=_}
 use Rattle.aipsio.specs.declared.Cursor.{Cursor}
 use Rattle.aipsio.specs.declared.Value.{Value}
-use Rattle.aipsio.specs.Field.{settled, sizedAt, uintAt, rangedAt, markAt}
-use Rattle.aipsio.specs.Object.{opened, closed, blockAt, mapAt}
-use Rattle.aipsio.proofs.Kept.{Clean, Keeps, keeps-same, clean-before, sized-reads, ranged-reads, opened-reads, closed-keeps, block-reads, map-keeps, _⨟_}
-use Rattle.aipsio.proofs.Accepted.{uint-is, sized-is, ranged-is, closed-is, opened-inside}
+use Rattle.aipsio.specs.Field.{sizedAt, uintAt, rangedAt, markAt}
+use Rattle.aipsio.proofs.Kept.{Clean, Keeps, keeps-same, clean-before, sized-reads, ranged-reads, _⨟_}
+use Rattle.aipsio.proofs.Accepted.{uint-is, sized-is, ranged-is}
 
 pub record Stays (c d : Cursor) : Type 0 where
   pub keeps : Keeps c d
@@ -28,7 +27,7 @@ a then b = record {
   ends = λ h. let p = b .ends h in let q = a .ends (clean-before (b .keeps) h) in omega arith;
 }
 
-end-of : {c d : Cursor} → c ≡ d → c .end ≤ d .end
+pub end-of : {c d : Cursor} → c ≡ d → c .end ≤ d .end
 end-of e = let p = ap (λ (x : Cursor). x .end) e in omega arith
 
 module _ (s : List ℕ) (c : Cursor) where
@@ -47,30 +46,3 @@ module _ (s : List ℕ) (c : Cursor) where
   pub mark-stays : Stays c (markAt s c)
   unfolding markAt _>>=_
   mark-stays = ranged-stays 4 0xbebebebe 0xbebebebe 1
-
-  pub opened-stays : (expected : List ℕ) (low high : ℕ) → Stays c (opened s c expected low high .next)
-  opened-stays expected low high = record {
-    keeps = opened-reads s c expected low high .keeps;
-    ends = λ h. opened-inside s c expected low high h .within;
-  }
-
-  map-ends : Clean (mapAt s c) → mapAt s c .end ≤ c .end
-  unfolding mapAt _>>=_
-  map-ends h = end-of (closed-is _ c h)
-
-  pub map-stays : Stays c (mapAt s c)
-  map-stays = record { keeps = map-keeps s c; ends = map-ends }
-
-  block-ends : (n size : ℕ) → Clean (blockAt s c n size .next) → blockAt s c n size .next .end ≤ c .end
-  unfolding blockAt settled _>>=_
-  block-ends n size h = end-of (closed-is _ c h)
-
-  pub block-stays : (n size : ℕ) → Stays c (blockAt s c n size .next)
-  block-stays n size = record { keeps = block-reads s c n size .keeps; ends = block-ends n size }
-
--- out of an object, to the end of its container
-pub closed-stays : {c outer d : Cursor} → Stays c outer → Stays outer d → Stays c (closed d outer)
-closed-stays {outer = outer} {d = d} a b = record {
-  keeps = a .keeps ⨟ b .keeps ⨟ closed-keeps d outer;
-  ends = λ h. let p = end-of (closed-is d outer h) in let q = a .ends (clean-before (b .keeps ⨟ closed-keeps d outer) h) in omega arith;
-}

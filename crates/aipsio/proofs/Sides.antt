@@ -5,14 +5,13 @@ use mathlib.Core.Bool.{Bool, true, false}
 use Prim.Native.Nat.{ℕ, _+_, _-_, _*_, _/_, _≤_, _<_}
 use native.Mathlib.Omega.{arith}
 use lib.Dec.{eqb}
-use borrow.Author.Tests.{eq-eqb, ne-eqb, le-leb, lt-leb}
+use borrow.Author.Tests.{eq-eqb, le-leb, lt-leb}
 use Rattle.aipsio.specs.declared.Cursor.{Cursor}
 use Rattle.aipsio.specs.Field.{refusedAt, movedTo, leftIn, skipped, skippedEach, judged, settled, textBefore}
-use Rattle.aipsio.specs.Object.{entered, closed, passed}
 use Rattle.aipsio.proofs.Kept.{Clean}
 
 module _ (c : Cursor) (h : Clean c) where
-  goes : eqb (c .refused) 0 ≡ true
+  pub goes : eqb (c .refused) 0 ≡ true
   goes = eq-eqb (c .refused) 0 h
 
   pub settle-on : (v : ℕ) → record { value = v; next = c } ≡ settled v c
@@ -31,18 +30,6 @@ module _ (c : Cursor) (h : Clean c) where
   unfolding judged
   judge-refused from ok n e = rw (goes, e)
 
-  pub close-on : (outer : Cursor) → c .at ≡ c .end → record { at = c .at; end = outer .end; big = c .big; refused = 0 } ≡ closed c outer
-  unfolding closed
-  close-on outer e = rw (goes, eq-eqb (c .at) (c .end) e)
-
-  pub close-refused : (outer : Cursor) → (c .at ≡ c .end → ⊥) → refusedAt c (outer .at) 7 ≡ closed c outer
-  unfolding closed
-  close-refused outer e = rw (goes, ne-eqb (c .at) (c .end) e)
-
-  pub pass-on : (outer : Cursor) → record { at = c .end; end = outer .end; big = c .big; refused = 0 } ≡ passed c outer
-  unfolding passed
-  pass-on outer = rw goes
-
   module _ {room : ℕ} (e : room ≡ leftIn c) (n : ℕ) where
     pub skip-on : n ≤ room → movedTo c (c .at + n) ≡ skipped c n
     unfolding skipped
@@ -59,16 +46,3 @@ module _ (c : Cursor) (h : Clean c) where
     pub each-refused : (size : ℕ) → room / size < n → refusedAt c (c .at + room / size * size) 1 ≡ skippedEach c n size
     unfolding skippedEach
     each-refused size l = rw (goes, lt-leb n (leftIn c / size) (rw e at l), e)
-
-  module _ (outer : Cursor) {room : ℕ} (e : room ≡ leftIn outer) (len : ℕ) where
-    pub enter-on : len ≤ room → c .at ≤ outer .at + len → record { at = c .at; end = outer .at + len; big = c .big; refused = 0 } ≡ entered c outer len
-    unfolding entered
-    enter-on l k = rw (goes, le-leb len (leftIn outer) (omega arith), le-leb (c .at) (outer .at + len) k)
-
-    pub enter-short : len ≤ room → outer .at + len < c .at → refusedAt c (outer .at) 7 ≡ entered c outer len
-    unfolding entered
-    enter-short l k = rw (goes, le-leb len (leftIn outer) (omega arith), lt-leb (c .at) (outer .at + len) k)
-
-    pub enter-far : room < len → refusedAt c (outer .at) 1 ≡ entered c outer len
-    unfolding entered
-    enter-far l = rw (goes, lt-leb len (leftIn outer) (omega arith))

@@ -15,7 +15,7 @@ use Rattle.bytes_at.specs.Steps.{_>>=_}
 use Rattle.bytes_at.specs.Stages.{_▷_, orNo}
 use Rattle.aipsio.specs.declared.Cursor.{Cursor}
 use Rattle.aipsio.specs.Field.{skipped, skippedEach, judged, settled, sizedAt, uintAt, rangedAt, agreed, markAt, textBefore, textAt, stringAt, nameAt}
-use Rattle.aipsio.specs.Object.{entered, opened, closed, passed, recordAt, blockAt, mapAt, ipositionAt, axisInto, axesAt, shapeAt}
+use Rattle.aipsio_objects.specs.Object.{entered, opened, closed, passed, recordAt, blockAt, mapAt, ipositionAt, axisInto, axesAt, shapeAt}
 use Rattle.data_type.specs.DataTypes.{placeOf, nameOf, withNumber, withName, columnTypeOf, cellBits}
 use Rattle.column_desc.specs.ColumnDesc.{typeAt, headAt, notesAt, optionsAt, dimensionsAt, elementsAt, layoutAt, defaultAt, tailAt, columnAt, blank, isNamed, firstNamed, columnInto, columnsAt}
 use Rattle.column_set.specs.ColumnSet.{kindOf, headAt as setHeadAt, firstNumber, noManager, managerInto, managersAt, sequenceAt, ownShapeAt, noOwner, ownerInto, ownersAt, infoInto, infosAt, noBinding, bindingOf, bindingAt, bindingsAt}

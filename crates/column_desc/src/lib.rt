@@ -173,9 +173,9 @@ fn read_elements(s: &[u8], c: Cursor, array: bool, options: usize, dimensions: u
 {
     if array {
         if 4 <= options {
-            return aipsio::shape(s, c, dimensions);
+            return aipsio_objects::shape(s, c, dimensions);
         }
-        let d = aipsio::iposition(s, c);
+        let d = aipsio_objects::iposition(s, c);
         return aipsio::settle(0, d);
     }
     aipsio::settle(1, c)
@@ -223,7 +223,7 @@ fn read_tail(s: &[u8], c: Cursor, array: bool, bits: usize) -> Value
     ensures bounded { λ r. ⌜ r .value ≤ 65536 ⌝ }
 {
     let m = aipsio::number(s, c, Width::Four, 0, 65536);
-    let keywords = aipsio::record(s, m.next);
+    let keywords = aipsio_objects::record(s, m.next);
     let v = aipsio::version(s, keywords, 1, 1);
     let d = skip_default(s, v.next, array, bits);
     aipsio::settle(m.value, d)

@@ -7,7 +7,8 @@ use lib.Dec.{eqb}
 use Rattle.bytes_at.specs.Steps.{_>>=_}
 use Rattle.aipsio.specs.declared.Cursor.{Cursor}
 use Rattle.aipsio.specs.Field.{flagAt}
-use Rattle.aipsio.proofs.Kept.{Keeps, keeps-same, after-keeps, judged-keeps, uint-reads, ranged-reads, any-string-reads, string-reads, iposition-keeps, _⨟_}
+use Rattle.aipsio.proofs.Kept.{Keeps, keeps-same, after-keeps, judged-keeps, uint-reads, ranged-reads, any-string-reads, string-reads, _⨟_}
+use Rattle.aipsio_objects.proofs.Kept.{iposition-keeps}
 use Rattle.aipsio.proofs.Bounds.{ranged-le}
 use Rattle.column_set.specs.declared.Managers.{Managers}
 use Rattle.column_set.specs.declared.Owners.{Owners}

@@ -11,7 +11,7 @@ use Rattle.bytes_at.specs.Loop.{after}
 use Rattle.bytes_at.specs.Steps.{_>>=_}
 use Rattle.aipsio.specs.declared.Cursor.{Cursor}
 use Rattle.aipsio.specs.Field.{judged, uintAt, numberAt, versionAt, flagAt, textAt, stringAt}
-use Rattle.aipsio.specs.Object.{ipositionAt}
+use Rattle.aipsio_objects.specs.Object.{ipositionAt}
 use Rattle.column_set.specs.declared.Kind.{Kind}
 use Rattle.column_set.specs.declared.Kind.the-variants.{Other, Standard, Incremental}
 use Rattle.column_set.specs.declared.Manager.{Manager}

@@ -250,7 +250,7 @@ fn skip_own_shape(s: &[u8], c: Cursor, array: bool) -> Cursor
         if own.value == 0 {
             return next;
         }
-        return aipsio::iposition(s, next);
+        return aipsio_objects::iposition(s, next);
     }
     c
 }

@@ -13,7 +13,7 @@ use Rattle.bytes_at.specs.Loop.{after}
 use Rattle.bytes_at.specs.Stages.{_▷_, orNo}
 use Rattle.bytes_at.specs.Steps.{_>>=_}
 use Rattle.aipsio.specs.Field.{skipped, skippedEach, judged, settled, sizedAt, uintAt, rangedAt, agreed, markAt, textBefore, textAt, nameAt}
-use Rattle.aipsio.specs.Object.{entered, opened, closed, blockAt}
+use Rattle.aipsio_objects.specs.Object.{entered, opened, closed, blockAt}
 use Rattle.column_desc.specs.declared.Column.{Column}
 use Rattle.column_desc.specs.ColumnDesc.{blank}
 use Rattle.column_set.specs.declared.Binding.{Binding}

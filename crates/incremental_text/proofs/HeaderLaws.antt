@@ -9,7 +9,8 @@ use native.Mathlib.Omega.{arith}
 use borrow.Author.Tests.{eq-eqb, ne-eqb}
 use Rattle.bytes_at.specs.Steps.{_>>=_}
 use Rattle.aipsio.specs.declared.Cursor.{Cursor}
-use Rattle.aipsio.proofs.Kept.{Clean, clean-before, uint-reads, ranged-reads, closed-keeps, _⨟_}
+use Rattle.aipsio.proofs.Kept.{Clean, clean-before, uint-reads, ranged-reads, _⨟_}
+use Rattle.aipsio_objects.proofs.Kept.{closed-keeps}
 use Rattle.aipsio.proofs.Accepted.{ranged-within}
 use Rattle.aipsio.proofs.Bounds.{ranged-le}
 use Rattle.incremental_text.specs.declared.HeaderFields.{HeaderFields}

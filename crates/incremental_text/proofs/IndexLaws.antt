@@ -11,10 +11,12 @@ use Rattle.bytes_at.specs.Bytes.{bytes}
 use Rattle.bytes_at.specs.Steps.{_>>=_}
 use Rattle.aipsio.specs.declared.Cursor.{Cursor}
 use Rattle.aipsio.specs.Field.{uintAt, markAt}
-use Rattle.aipsio.specs.Object.{opened, closed, blockAt}
-use Rattle.aipsio.proofs.Kept.{Clean, clean-before, closed-keeps}
-use Rattle.aipsio.proofs.Accepted.{block-inside}
-use Rattle.aipsio.proofs.Ends.{Stays, _then_, uint-stays, mark-stays, opened-stays, block-stays}
+use Rattle.aipsio_objects.specs.Object.{opened, closed, blockAt}
+use Rattle.aipsio.proofs.Kept.{Clean, clean-before}
+use Rattle.aipsio_objects.proofs.Kept.{closed-keeps}
+use Rattle.aipsio_objects.proofs.Accepted.{block-inside}
+use Rattle.aipsio.proofs.Ends.{Stays, _then_, uint-stays, mark-stays}
+use Rattle.aipsio_objects.proofs.Ends.{opened-stays, block-stays}
 use Rattle.incremental_text.specs.declared.Index.{Index}
 use Rattle.incremental_text.specs.Index.{indexed, indexIn, IndexInside}
 

@@ -9,7 +9,7 @@ use Rattle.bytes_at.specs.Number.{bigFrom, uintOf, bigBytes as row}
 use Rattle.bytes_at.specs.Bytes.{sameBytes}
 use Rattle.bytes_at.specs.Steps.{_>>=_}
 use Rattle.aipsio.specs.Field.{skipped, skippedEach, judged, settled, sizedAt, uintAt, rangedAt, agreed, markAt, textBefore, textAt, nameAt}
-use Rattle.aipsio.specs.Object.{entered, opened, closed, blockAt}
+use Rattle.aipsio_objects.specs.Object.{entered, opened, closed, blockAt}
 use Rattle.incremental_text.specs.Header.{fieldsAt, headed, headerIn, headerAt}
 use Rattle.incremental_text.specs.Index.{indexed, indexIn, indexAt}
 

@@ -8,7 +8,7 @@ use Rattle.bytes_at.specs.Bytes.{bytes}
 use Rattle.bytes_at.specs.Steps.{_>>=_}
 use Rattle.aipsio.specs.declared.Cursor.{Cursor}
 use Rattle.aipsio.specs.Field.{uintAt, markAt}
-use Rattle.aipsio.specs.Object.{opened, closed, blockAt}
+use Rattle.aipsio_objects.specs.Object.{opened, closed, blockAt}
 use Rattle.incremental_text.specs.declared.Index.{Index}
 
 -- "A refusal carries its number and zeros."

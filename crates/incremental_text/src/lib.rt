@@ -41,7 +41,7 @@ fn read_fields(s: &[u8], c: Cursor, big: bool) -> HeaderFields
     ensures words { λ r. ⌜ (r .«free_count» < 4294967296) × (r .«first_free» < 4294967296) ⌝ }
 {
     // IncrementalStMan
-    let o = aipsio::open(s, c, 16, 0x496e6372656d656e, 0x74616c53744d616e, 5, 5);
+    let o = aipsio_objects::open(s, c, 16, 0x496e6372656d656e, 0x74616c53744d616e, 5, 5);
     let flag = aipsio::flag(s, o.next);
     let same = manager_file::same_endian(flag.value, big);
     let d = aipsio::judge(flag.next, o.next.at, same, 6);
@@ -99,7 +99,7 @@ pub fn read_header(f: &[u8], big: bool) -> Header
     };
     let m = aipsio::mark(f, start);
     let h = read_fields(f, m, big);
-    let e = aipsio::close(h.next, m);
+    let e = aipsio_objects::close(h.next, m);
     answer_header(e, h)
 }
 
@@ -137,10 +137,10 @@ pub fn read_index(f: &[u8], at: usize) -> Index
     };
     let m = aipsio::mark(f, start);
     // ISMIndex
-    let o = aipsio::open(f, m, 8, 0x49534d496e646578, 0x49534d496e646578, 1, 1);
+    let o = aipsio_objects::open(f, m, 8, 0x49534d496e646578, 0x49534d496e646578, 1, 1);
     let n = aipsio::uint(f, o.next);
-    let firsts = aipsio::block(f, n.next, n.value + 1, 4);
-    let buckets = aipsio::block(f, firsts.next, n.value, 4);
-    let e = aipsio::close(buckets.next, m);
+    let firsts = aipsio_objects::block(f, n.next, n.value + 1, 4);
+    let buckets = aipsio_objects::block(f, firsts.next, n.value, 4);
+    let e = aipsio_objects::close(buckets.next, m);
     answer_index(e, n.value, firsts.value, buckets.value)
 }

@@ -18,7 +18,7 @@ use Rattle.bytes_at.specs.Stages.{_▷_}
 use Rattle.aipsio.specs.declared.Cursor.{Cursor}
 use Rattle.aipsio.specs.declared.Value.{Value}
 use Rattle.aipsio.specs.Field.{latched, refusedAt, leftIn, skipped, skippedEach, judged, settled, sizedAt, uintAt, rangedAt, flagAt, agreed, markAt, textAt, stringAt, nameAt}
-use Rattle.aipsio.specs.Object.{entered, opened, closed, passed, recordAt, blockAt, mapAt, ipositionAt, axisInto, axesAt, shapeAt}
+use Rattle.aipsio_objects.specs.Object.{entered, opened, closed, passed, recordAt, blockAt, mapAt, ipositionAt, axisInto, axesAt, shapeAt}
 use Rattle.aipsio.proofs.Kept.{text-next}
 use Rattle.column_desc.specs.declared.Head.{Head}
 use Rattle.column_desc.specs.declared.Columns.{Columns}

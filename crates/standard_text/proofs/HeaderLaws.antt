@@ -9,7 +9,8 @@ use native.Mathlib.Omega.{arith}
 use borrow.Author.Tests.{eq-eqb, ne-eqb, leb-true}
 use Rattle.bytes_at.specs.Steps.{_>>=_}
 use Rattle.aipsio.specs.declared.Cursor.{Cursor}
-use Rattle.aipsio.proofs.Kept.{Clean, Keeps, clean-before, uint-reads, ranged-reads, judged-keeps, closed-keeps, _⨟_}
+use Rattle.aipsio.proofs.Kept.{Clean, Keeps, clean-before, uint-reads, ranged-reads, judged-keeps, _⨟_}
+use Rattle.aipsio_objects.proofs.Kept.{closed-keeps}
 use Rattle.aipsio.proofs.Accepted.{judged-passed, ranged-within}
 use Rattle.aipsio.proofs.Bounds.{ranged-le}
 use Rattle.standard_text.specs.declared.BucketFields.{BucketFields}

@@ -18,14 +18,17 @@ use Rattle.bytes_at.specs.Loop.{after}
 use Rattle.bytes_at.specs.Steps.{_>>=_}
 use Rattle.aipsio.specs.declared.Cursor.{Cursor}
 use Rattle.aipsio.specs.Field.{judged, uintAt, numberAt, markAt}
-use Rattle.aipsio.specs.Object.{opened, blockAt, mapAt}
-use Rattle.aipsio.proofs.Kept.{Clean, clean-before, judged-keeps, closed-keeps}
-use Rattle.aipsio.proofs.Accepted.{ranged-within, block-inside}
+use Rattle.aipsio_objects.specs.Object.{opened, blockAt, mapAt}
+use Rattle.aipsio.proofs.Kept.{Clean, clean-before, judged-keeps}
+use Rattle.aipsio_objects.proofs.Kept.{closed-keeps}
+use Rattle.aipsio.proofs.Accepted.{ranged-within}
+use Rattle.aipsio_objects.proofs.Accepted.{block-inside}
 use Rattle.standard_text.specs.declared.Set.{Set}
 use Rattle.standard_text.specs.declared.Sets.{Sets}
 use Rattle.standard_text.specs.declared.Index.{Index}
 use Rattle.standard_text.specs.Index.{setAt, noSet, setInto, noSets, setsAt, indexed, indexIn, SetInside}
-use Rattle.aipsio.proofs.Ends.{Stays, stays-same, _then_, uint-stays, ranged-stays, mark-stays, opened-stays, map-stays, block-stays, closed-stays}
+use Rattle.aipsio.proofs.Ends.{Stays, stays-same, _then_, uint-stays, ranged-stays, mark-stays}
+use Rattle.aipsio_objects.proofs.Ends.{opened-stays, map-stays, block-stays, closed-stays}
 
 -- a longer text
 wider : {a b each : ℕ} {x : Set} → a ≤ b → SetInside a each x → SetInside b each x

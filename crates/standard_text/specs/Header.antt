@@ -9,7 +9,7 @@ use Rattle.bytes_at.specs.Bytes.{bytes}
 use Rattle.bytes_at.specs.Steps.{_>>=_}
 use Rattle.aipsio.specs.declared.Cursor.{Cursor}
 use Rattle.aipsio.specs.Field.{judged, uintAt, numberAt, markAt, flagAt}
-use Rattle.aipsio.specs.Object.{opened, closed}
+use Rattle.aipsio_objects.specs.Object.{opened, closed}
 use Rattle.manager_file.specs.Start.{headerRoom, sameEndian}
 use Rattle.standard_text.specs.declared.BucketFields.{BucketFields}
 use Rattle.standard_text.specs.declared.IndexFields.{IndexFields}

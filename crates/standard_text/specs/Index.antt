@@ -12,7 +12,7 @@ use Rattle.bytes_at.specs.Loop.{after}
 use Rattle.bytes_at.specs.Steps.{_>>=_}
 use Rattle.aipsio.specs.declared.Cursor.{Cursor}
 use Rattle.aipsio.specs.Field.{judged, uintAt, numberAt, markAt}
-use Rattle.aipsio.specs.Object.{opened, closed, blockAt, mapAt}
+use Rattle.aipsio_objects.specs.Object.{opened, closed, blockAt, mapAt}
 use Rattle.standard_text.specs.declared.Set.{Set}
 use Rattle.standard_text.specs.declared.SetRead.{SetRead}
 use Rattle.standard_text.specs.declared.Sets.{Sets}

@@ -82,7 +82,7 @@ fn read_bucket_fields(s: &[u8], c: Cursor, big: bool) -> BucketFields
     ensures words { λ r. ⌜ (r .«free_count» < 4294967296) × (r .«first_free» < 4294967296) ⌝ }
 {
     // StandardStMan
-    let o = aipsio::open(s, c, 13, 0x5374616e64617264, 0x61726453744d616e, 3, 3);
+    let o = aipsio_objects::open(s, c, 13, 0x5374616e64617264, 0x61726453744d616e, 3, 3);
     let flag = aipsio::flag(s, o.next);
     let same = manager_file::same_endian(flag.value, big);
     let d = aipsio::judge(flag.next, o.next.at, same, 6);
@@ -184,7 +184,7 @@ pub fn read_header(f: &[u8], big: bool) -> Header
     let m = aipsio::mark(f, start);
     let b = read_bucket_fields(f, m, big);
     let i = read_index_fields(f, b.next);
-    let e = aipsio::close(i.next, m);
+    let e = aipsio_objects::close(i.next, m);
     answer_header(e, b, i)
 }
 
@@ -194,15 +194,15 @@ fn read_set(s: &[u8], c: Cursor, width: Width) -> SetRead
 {
     let m = aipsio::mark(s, c);
     // SSMIndex
-    let o = aipsio::open(s, m, 8, 0x53534d496e646578, 0x53534d496e646578, 1, 1);
+    let o = aipsio_objects::open(s, m, 8, 0x53534d496e646578, 0x53534d496e646578, 1, 1);
     let entries = aipsio::uint(s, o.next);
     let per = aipsio::number(s, entries.next, Width::Four, 1, 8388608);
     let columns = aipsio::uint(s, per.next);
-    let free = aipsio::map(s, columns.next);
+    let free = aipsio_objects::map(s, columns.next);
     let each = width.bytes();
-    let lasts = aipsio::block(s, free, entries.value, each);
-    let buckets = aipsio::block(s, lasts.next, entries.value, 4);
-    let next = aipsio::close(buckets.next, m);
+    let lasts = aipsio_objects::block(s, free, entries.value, each);
+    let buckets = aipsio_objects::block(s, lasts.next, entries.value, 4);
+    let next = aipsio_objects::close(buckets.next, m);
     SetRead {
         set: Set {
             entries: entries.value,

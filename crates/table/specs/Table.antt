@@ -9,7 +9,7 @@ use Rattle.bytes_at.specs.Steps.{_>>=_}
 use Rattle.bytes_at.specs.Stages.{_▷_, orNo}
 use Rattle.aipsio.specs.declared.Cursor.{Cursor}
 use Rattle.aipsio.specs.Field.{judged, numberAt, codeAt, markAt, nameAt, stringAt}
-use Rattle.aipsio.specs.Object.{opened, closed, recordAt}
+use Rattle.aipsio_objects.specs.Object.{opened, closed, recordAt}
 use Rattle.column_desc.specs.ColumnDesc.{columnsAt, blank, firstNamed}
 use Rattle.column_set.specs.ColumnSet.{headAt as setHeadAt, managersAt, ownersAt, infosAt, bindingsAt, noBinding, noManager}
 use Rattle.table.specs.declared.Description.{Description}

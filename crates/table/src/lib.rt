@@ -61,8 +61,8 @@ fn read_desc_head(s: &[u8], c: Cursor) -> DescHead
     let name = aipsio::string(s, c, 0, 4096);
     let version = aipsio::string(s, name.next, 0, 4096);
     let comment = aipsio::string(s, version.next, 0, 4096);
-    let keywords = aipsio::record(s, comment.next);
-    let private = aipsio::record(s, keywords);
+    let keywords = aipsio_objects::record(s, comment.next);
+    let private = aipsio_objects::record(s, keywords);
     let n = aipsio::number(s, private, Width::Four, 1, 64);
     let next = n.next;
     DescHead {
@@ -104,10 +104,10 @@ pub fn describe(s: &[u8]) -> Description
     let c = aipsio::judge(whole, 65536, s.len() <= 65536, 4);
     let m = aipsio::mark(s, c);
     // Table
-    let t = aipsio::open(s, m, 5, 0x5461626c, 0x61626c65, 2, 2);
+    let t = aipsio_objects::open(s, m, 5, 0x5461626c, 0x61626c65, 2, 2);
     let head = read_head(s, t.next);
     // TableDesc
-    let o = aipsio::open(
+    let o = aipsio_objects::open(
         s,
         head.next,
         9,
@@ -118,7 +118,7 @@ pub fn describe(s: &[u8]) -> Description
     );
     let n = read_desc_head(s, o.next);
     let cs = column_desc::read_columns(s, n.next, n.count);
-    let e = aipsio::close(cs.next, head.next);
+    let e = aipsio_objects::close(cs.next, head.next);
     let set = column_set::read_head(s, e, head.rows);
     let ms = column_set::read_managers(s, set.next, set.count, set.highest);
     let numbers = ms.numbers;
@@ -127,7 +127,7 @@ pub fn describe(s: &[u8]) -> Description
     let os = column_set::read_owners(s, ms.next, arrays, n.count, numbers, set.count);
     let counts = os.counts;
     let is = column_set::read_infos(s, os.next, ours, counts, set.count);
-    let d = aipsio::close(is.next, m);
+    let d = aipsio_objects::close(is.next, m);
     let refused = d.refused;
     if refused != 0 {
         return refuse(refused);
