@@ -46,7 +46,7 @@ use Rattle.lookup_rules.proofs.Places.{place-standard}
 use Rattle.lookup_rules.proofs.IncrementalPlaces.{place-there}
 use Rattle.lookup_rules.proofs.Stages.{check-of, row-passed, stages-sequence, stages-kind, target-column, target-sequence, target-position, target-binding, target-described, stages-plan, stages-set, stages-first}
 use Rattle.lookup.specs.Lookup.{Findable, cellBit, answerWith}
-use Rattle.lookup.proofs.Placing.{sets-told, size-told, set-known, set-same, set-covered, set-inside, size-most}
+use Rattle.lookup.proofs.Placing.{set-told, size-told, set-known, set-same, set-covered, set-inside, size-most}
 
 -- a set that lies in a text lies in a longer one
 longer : {a b : ℕ} {x : Set} → a ≤ b → SetInside a 4 x → SetInside b 4 x
@@ -117,19 +117,19 @@ module _ (t f : List ℕ) (q : Question) (l : ℕ) (z : stagesOf t f q l .refuse
   covered = rw (set-same d sequence f before l (b .set) listed) at (set-covered d sequence f before l passes (b .set) listed)
 
   -- what the stages hand over
-  file-is : fileOf d (targetOf d q) f row l ≡ ofStandard (checkedAs d sequence f before l) (targetOf d q .binding .set)
+  file-is : fileOf d (targetOf d q) f row l ≡ ofStandard (checkedAs d sequence f before (targetOf d q .binding .set) l)
   file-is = file-standard d (targetOf d q) f l k row
 
   set-is : stagesOf t f q l .set ≡ x
   set-is =
       stages-set t f q l
       ∙ ap (λ (m : FileChecked). m .set) file-is
-      ∙ ap (λ (y : Binding). getD (checkedAs d sequence f before l .sets) (y .set) noSet) (target-binding d q)
-      ∙ ap (λ (s : List Set). getD s (b .set) noSet) (sets-told d sequence f before l passes)
+      ∙ set-told d sequence f before l passes (targetOf d q .binding .set)
+      ∙ ap (λ (y : Binding). getD (indexAt text (headerAt f (d .big) .sets) .sets) (y .set) noSet) (target-binding d q)
 
   size-is : stagesOf t f q l .plan .size ≡ m .size
   unfolding planFor _>>=_
-  size-is = ap (λ (p : Plan). p .size) (stages-plan t f q l) ∙ ap (λ (m : FileChecked). m .size) file-is ∙ size-told d sequence f before l passes
+  size-is = ap (λ (p : Plan). p .size) (stages-plan t f q l) ∙ ap (λ (m : FileChecked). m .size) file-is ∙ size-told d sequence f before l passes (targetOf d q .binding .set)
 
   offset-is : stagesOf t f q l .plan .offset ≡ columnAt m c .offset
   unfolding planFor _>>=_
@@ -144,7 +144,7 @@ module _ (t f : List ℕ) (q : Question) (l : ℕ) (z : stagesOf t f q l .refuse
       ∙ sym (ap (λ (e : MapColumn). e .bits) column-is)
 
   inside : SetInside (length text) 4 x
-  inside = rw (sets-told d sequence f before l passes) at (set-inside d sequence f before l passes (b .set) listed)
+  inside = set-inside d sequence f before l passes (b .set) listed
 
   module _ {y : List ℕ} (e : y ≡ padded l text) where
     text-fits : length text ≤ length y

@@ -1,16 +1,20 @@
 -- What no refusal shows, the room afterwards, and the answers as their enums.
 -- Assumes nothing.
 use mathlib.Core.Path.{_≡_, refl, sym, ap, _∙_}
-use mathlib.Core.Bool.{Bool, true, false, _&&_, not}
+use mathlib.Core.Bool.{Bool, true, false, cond, _&&_, not}
 use mathlib.Core.List.{List}
-use Prim.Native.Nat.{ℕ}
-use native.Mathlib.Decide.{ℕ-discrete}
+use Prim.Native.Nat.{ℕ, _<_}
+use native.Mathlib.Decide.{ℕ-discrete, decLt}
 use native.Mathlib.Omega.{arith}
-use lib.Dec.{eqb}
-use lib.ListN.{length, getD, replicate}
-use borrow.Author.Tests.{eq-eqb, ne-eqb}
+use lib.Dec.{eqb, ltb}
+use lib.ListN.{length, getD, replicate, List·getD-eq-default}
+use borrow.Author.Tests.{eq-eqb, ne-eqb, lt-ltb, le-ltb}
 use Rattle.bytes_at.specs.Stages.{_▷_, orNo}
 use Rattle.bytes_at.proofs.Stages.{then-left}
+use Rattle.column_desc.specs.declared.Column.{Column}
+use Rattle.column_desc.specs.ColumnDesc.{blank}
+use Rattle.column_set.specs.declared.Binding.{Binding}
+use Rattle.column_set.specs.ColumnSet.{noBinding}
 use Rattle.table.specs.declared.Description.{Description}
 use Rattle.table.specs.Table.{describedAs}
 use Rattle.buckets.specs.Chain.{padded}
@@ -28,9 +32,11 @@ use Rattle.lookup_rules.specs.declared.Verdict.the-variants.{Accepted, Refused 
 use Rattle.lookup_rules.specs.declared.Planned.the-variants.{Ready, Refused as NotPlanned}
 use Rattle.lookup_rules.specs.declared.Placed.the-variants.{At, Refused as NotPlaced}
 use Rattle.lookup_rules.specs.declared.Answer.{Answer}
-use Rattle.lookup_rules.specs.Questions.{fileOf, stagesOf, roomAfter, verdictOf, planOf, placedOf}
+use Rattle.lookup_rules.specs.Questions.{rowOf, positionOf, targetOf, fileOf, stagesOf, roomAfter, verdictOf, planOf, placedOf}
 use Rattle.lookup_rules.proofs.Files.{file-standard, file-incremental}
-use Rattle.lookup.specs.Lookup.{keepsText, settled}
+use Rattle.lookup_rules.proofs.Described.{described}
+use Rattle.lookup_parts.specs.Taken.{Taken}
+use Rattle.lookup.specs.Lookup.{Reached, keepsText, settled}
 
 false-true : false ≡ true → ⊥
 false-true h = let n : _≡_ {A = ℕ} 0 1 = cc in omega arith
@@ -62,19 +68,42 @@ keeps-refused s n = rw (ne-eqb (s .refused) 0 n)
 pub keeps-other : (s : Staged) {k : Bool} → s .refused ≡ 0 → k ≡ not (s .incremental) → k ≡ keepsText s
 keeps-other s z e = rw (eq-eqb (s .refused) 0 z) e
 
--- `check_file`
-pub no-text : {A B : Type 0} {i : Bool} → i ≡ true → B → i ≡ false → A
-no-text e b k = absurd (false-true (sym k ∙ e))
+-- ---- `stages`
+pub no-text : {A : Type 0} {i r : Bool} → i ≡ true → r ≡ i → r ≡ false → A
+no-text e q k = absurd (false-true (sym k ∙ q ∙ e))
 
-module _ (d : Description) (g : Target) (f : List ℕ) (row l : ℕ) where
-  pub file-there : {m : IncrementalChecked} {none : Set} → g .incremental ≡ true → m ≡ incrementalAs d (g .sequence) f (g .refused) (g .position) row → none ≡ noSet
-      → record { refused = m .refused; size = m .size; set = none; first = m .first } ≡ fileOf d g f row l
-  file-there k e n = rw (file-incremental d g f l k row, e, n)
+-- the element of 64 at a position, read at a place that is the position's where there is one
+pub picked : {A : Type 0} (xs : List A) (z : A) {i at : ℕ} {r : A} → length xs ≡ 64 → (i < 64 → at ≡ i) → r ≡ cond (ltb i 64) (getD xs at z) z → r ≡ getD xs i z
+picked xs z {i} {at} long e p = elim (decLt i 64) [
+  | yes l ↦ rw (lt-ltb i 64 l, e l) at p
+  | no l ↦ (rw (le-ltb i 64 (omega arith)) at p) ∙ sym (List·getD-eq-default xs z {n = i} (omega (arith, long)))
+]
 
-  pub file-here : {m : Checked} {set : Set} → g .incremental ≡ false → m ≡ checkedAs d (g .sequence) f (g .refused) l
-      → set ≡ getD (m .sets) (g .binding .set) noSet
-      → record { refused = m .refused; size = m .size; set = set; first = 0 } ≡ fileOf d g f row l
-  file-here k e n = rw (file-standard d g f l k row, n, e)
+module _ (t : List ℕ) (q : Question) {d : Description} (e : d ≡ describedAs t) where
+  pub taken : {position at : ℕ} {c : Column} {b : Binding} → position ≡ positionOf q → (position < 64 → at ≡ position)
+      → c ≡ cond (ltb position 64) (getD (d .columns) at blank) blank → b ≡ cond (ltb position 64) (getD (d .bindings) at noBinding) noBinding
+      → Taken d q (d .refused) (d .«column_count») (d .managers) (d .«manager_count») c b
+  taken p a x y =
+      record {
+        refused-is = refl;
+        columns-are = refl;
+        managers-are = refl;
+        count-is = refl;
+        column-is = picked (d .columns) blank (rw e (described t .columns-places)) a x ∙ ap (λ i. getD (d .columns) i blank) p;
+        binding-is = picked (d .bindings) noBinding (rw e (described t .bindings-places)) a y ∙ ap (λ i. getD (d .bindings) i noBinding) p;
+      }
+
+  module _ (f : List ℕ) (l : ℕ) {g : Target} (h : g ≡ targetOf d q) where
+    pub reached-there : {row : ℕ} {m : IncrementalChecked} {none : Set} → g .incremental ≡ true → row ≡ rowOf q
+        → m ≡ incrementalAs d (g .sequence) f (g .refused) (g .position) row → none ≡ noSet
+        → Reached t f q l g (record { refused = m .refused; size = m .size; set = none; first = m .first }) (d .rows)
+    reached-there k r p n =
+        record { target-is = rw (← e) h; file-is = rw (file-incremental (describedAs t) g f l k (rowOf q), ← e, p, r, n); rows-are = ap (λ (x : Description). x .rows) e }
+
+    pub reached-here : {m : Checked} → g .incremental ≡ false → m ≡ checkedAs d (g .sequence) f (g .refused) (g .binding .set) l
+        → Reached t f q l g (record { refused = m .refused; size = m .size; set = m .set; first = 0 }) (d .rows)
+    reached-here k p =
+        record { target-is = rw (← e) h; file-is = rw (file-standard (describedAs t) g f l k (rowOf q), ← e, p); rows-are = ap (λ (x : Description). x .rows) e }
 
 -- a room that is kept or cleared
 module _ (t f : List ℕ) (q : Question) (l : ℕ) where

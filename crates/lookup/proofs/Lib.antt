@@ -1,4 +1,5 @@
 -- Laws that the proofs cite.
 pub mod Laws
+pub mod Gathering
 pub mod Placing
 pub mod Cells

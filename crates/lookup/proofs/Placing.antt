@@ -16,7 +16,7 @@ use Rattle.cell_map.proofs.Checked.{accepted, set-covers}
 use Rattle.standard_text.specs.Header.{headerAt}
 use Rattle.standard_text.specs.Index.{noSet, indexAt, SetInside}
 use Rattle.standard_text.proofs.IndexLaws.{index-inside}
-use Rattle.standard_columns.proofs.Facts.{sets-length, sets-at}
+use Rattle.standard.proofs.Gathering.{sets-length, sets-at}
 use Rattle.standard_text.proofs.HeaderLaws.{header-bounds}
 use Rattle.lookup_rules.proofs.Places.{map-fits}
 use Rattle.standard_rules.specs.Rules.{textOf, setOf, mapOf, refusalOf, checkedAs}
@@ -26,15 +26,15 @@ module _ (d : Description) (sequence : ℕ) (f : List ℕ) (refused l : ℕ) whe
   unfolding refusalOf
   index-passed z = search (then-left, then-right) depth 9
 
-  -- the sets and the bucket size that the check tells are the file's
-  pub sets-told : refusalOf d sequence f refused l ≡ 0
-      → checkedAs d sequence f refused l .sets ≡ indexAt (textOf f (headerAt f (d .big))) (headerAt f (d .big) .sets) .sets
+  -- the set and the bucket size that the check tells are the file's
+  pub set-told : refusalOf d sequence f refused l ≡ 0
+      → (k : ℕ) → checkedAs d sequence f refused k l .set ≡ getD (indexAt (textOf f (headerAt f (d .big))) (headerAt f (d .big) .sets) .sets) k noSet
   unfolding checkedAs
-  sets-told z = rw (eq-eqb (refusalOf d sequence f refused l) 0 z)
+  set-told z k = rw (eq-eqb (refusalOf d sequence f refused l) 0 z)
 
-  pub size-told : refusalOf d sequence f refused l ≡ 0 → checkedAs d sequence f refused l .size ≡ mapOf d sequence f .size
+  pub size-told : refusalOf d sequence f refused l ≡ 0 → (k : ℕ) → checkedAs d sequence f refused k l .size ≡ mapOf d sequence f .size
   unfolding checkedAs mapOf
-  size-told z = rw (eq-eqb (refusalOf d sequence f refused l) 0 z)
+  size-told z k = rw (eq-eqb (refusalOf d sequence f refused l) 0 z)
 
   map-sets : length (mapOf d sequence f .sets) ≡ headerAt f (d .big) .sets
   unfolding mapOf
@@ -57,8 +57,8 @@ module _ (d : Description) (sequence : ℕ) (f : List ℕ) (refused l : ℕ) whe
 
   -- its lists lie in the text
   pub set-inside : refusalOf d sequence f refused l ≡ 0 → (k : ℕ) → k < headerAt f (d .big) .sets
-      → SetInside (length (textOf f (headerAt f (d .big)))) 4 (getD (checkedAs d sequence f refused l .sets) k noSet)
-  set-inside z k h = rw (sets-told z) (index-inside _ 1 Four _ (header-bounds f 1 (d .big) .sets-most) (index-passed z) k h)
+      → SetInside (length (textOf f (headerAt f (d .big)))) 4 (getD (indexAt (textOf f (headerAt f (d .big))) (headerAt f (d .big) .sets) .sets) k noSet)
+  set-inside z k h = index-inside _ 1 Four _ (header-bounds f 1 (d .big) .sets-most) (index-passed z) k h
 
   pub size-most : mapOf d sequence f .size ≤ 1048576
   unfolding mapOf

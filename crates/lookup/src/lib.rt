@@ -2,7 +2,8 @@
 // clears the room.
 ghost use mathlib.Core.Path.{_≡_};
 ghost use mathlib.Core.Bool.{false};
-ghost use Prim.Native.Nat.{_≤_, _<_};
+ghost use mathlib.Core.List.{List};
+ghost use Prim.Native.Nat.{ℕ, _≤_, _<_};
 ghost use lib.Dec.{T};
 ghost use lib.ListN.{length};
 ghost use Rattle.table.specs.Table.{describedAs};
@@ -12,7 +13,6 @@ ghost use Rattle.standard_rules.specs.Rules.{textOf};
 ghost use Rattle.lookup_rules.specs.Questions.{
   rowOf,
   asksCell,
-  fileOf,
   stagesOf,
   answerOf,
   roomAfter,
@@ -21,7 +21,7 @@ ghost use Rattle.lookup_rules.specs.Questions.{
   placedOf,
   viewOf,
 };
-ghost use Rattle.lookup.specs.Lookup.{keepsText, settled, Findable, cellBit, answerWith};
+ghost use Rattle.lookup.specs.Lookup.{Reached, keepsText, settled, Findable, cellBit, answerWith};
 use lookup_rules::Answer;
 use lookup_rules::FileChecked;
 use lookup_rules::Placed;
@@ -31,51 +31,17 @@ use lookup_rules::Question;
 use lookup_rules::Staged;
 use lookup_rules::Target;
 use lookup_rules::Verdict;
-use table::Description;
 
-// The check of the manager's file, by its kind. The room holds the index text of a StandardStMan file that is not refused; else it
-// may hold anything.
-fn check_file(d: Description, g: Target, row: usize, file: &[u8], room: &mut [u8]) -> FileChecked
-    requires { ⌜ d .«column_count» ≤ 64 ⌝ }
-    ensures { λ r. ⌜ (r ≡ fileOf d g (now (file .entry)) row (length (now (room .entry)))) × (r .refused ≡ 0 → g .incremental ≡ false → now (room .exit) ≡ padded (length (now (room .entry))) (textOf (now (file .entry)) (headerAt (now (file .entry)) (d .big)))) ⌝ }
-{
-    if g.incremental {
-        let m = incremental::check(d, file, g.sequence, g.refused, g.position, row);
-        let none = standard_text::no_set();
-        return FileChecked {
-            refused: m.refused,
-            size: m.size,
-            set: none,
-            first: m.first,
-        };
-    }
-    let m = standard::check(d, file, g.sequence, g.refused, room);
-    let sets = m.sets;
-    let b = g.binding;
-    let set = lookup_parts::set_at(sets, b.set as usize);
-    FileChecked {
-        refused: m.refused,
-        size: m.size,
-        set: set,
-        first: 0,
-    }
-}
-
-// All stages in their order. The room holds the index text of a StandardStMan file where none refuses; else it may hold
-// anything.
-fn stages(table: &[u8], file: &[u8], q: Question, room: &mut [u8]) -> Staged
-    ensures { λ r. ⌜ (r ≡ stagesOf (now (table .entry)) (now (file .entry)) q (length (now (room .entry)))) × (r .refused ≡ 0 → r .incremental ≡ false → now (room .exit) ≡ padded (length (now (room .entry))) (textOf (now (file .entry)) (headerAt (now (file .entry)) (describedAs (now (table .entry)) .big)))) ⌝ }
+// The stages after the check of the manager's file.
+fn finish(q: Question, g: Target, m: FileChecked, rows: usize) -> Staged
+    ensures { λ r. ⌜ ((t f : List ℕ) (l : ℕ) → Reached t f q l g m rows → r ≡ stagesOf t f q l) × (r .refused ≡ 0 → m .refused ≡ 0) × (r .incremental ≡ g .incremental) ⌝ }
     ensures bounded { λ r. ⌜ (r .plan .offset < 4294967296) × (r .plan .bits ≤ 4294967296) ⌝ }
 {
-    let d = table::describe(table);
-    let g = lookup_parts::find_target(d, q);
-    let row = lookup_parts::row_of(q);
-    let m = check_file(d, g, row, file, room);
     let p = lookup_parts::plan_for(g, m);
     let s = m.set;
     let fresh = lookup_parts::fresh(q, p);
     let r1 = lookup_parts::stage(m.refused, fresh, 12);
-    let below = lookup_parts::below(q, d.rows);
+    let below = lookup_parts::below(q, rows);
     let r2 = lookup_parts::stage(r1, below, 9);
     let seen = lookup_parts::seen(q, g.incremental, p.datatype);
     let r3 = lookup_parts::stage(r2, seen, 14);
@@ -87,6 +53,82 @@ fn stages(table: &[u8], file: &[u8], q: Question, room: &mut [u8]) -> Staged
         set: s,
         first: m.first,
     }
+}
+
+// All stages in their order. The room holds the index text of a StandardStMan file where none refuses; else it may hold
+// anything. The description is read here, where it lies: a function that takes it copies it. So StandardStMan's check is lent the
+// columns' numbers.
+fn stages(table: &[u8], file: &[u8], q: Question, room: &mut [u8]) -> Staged
+    ensures { λ r. ⌜ (r ≡ stagesOf (now (table .entry)) (now (file .entry)) q (length (now (room .entry)))) × (r .refused ≡ 0 → r .incremental ≡ false → now (room .exit) ≡ padded (length (now (room .entry))) (textOf (now (file .entry)) (headerAt (now (file .entry)) (describedAs (now (table .entry)) .big)))) ⌝ }
+    ensures bounded { λ r. ⌜ (r .plan .offset < 4294967296) × (r .plan .bits ≤ 4294967296) ⌝ }
+{
+    let d = table::describe(table);
+    let position = lookup_parts::position_of(q);
+    let at = lookup_parts::place_of(position);
+    let described = d.columns[at];
+    let bound = d.bindings[at];
+    let column = lookup_parts::column_if(position, described);
+    let binding = lookup_parts::binding_if(position, bound);
+    let managers = d.managers;
+    let g = lookup_parts::find_target(
+        d.refused,
+        d.column_count,
+        managers,
+        d.manager_count,
+        column,
+        binding,
+        q,
+    );
+    if g.incremental {
+        let row = lookup_parts::row_of(q);
+        let there = incremental::check(d, file, g.sequence, g.refused, g.position, row);
+        let none = standard_text::no_set();
+        let found = FileChecked {
+            refused: there.refused,
+            size: there.size,
+            set: none,
+            first: there.first,
+        };
+        return finish(q, g, found, d.rows);
+    }
+    let n = d.column_count;
+    let sequence = g.sequence;
+    let mut kept = [false; 64];
+    let mut owners = [0usize; 64];
+    let mut offsets = [0usize; 64];
+    let mut bits = [0usize; 64];
+    let mut i = 0;
+    while i < n {
+        let c = d.columns[i];
+        let b = d.bindings[i];
+        kept[i] = b.sequence as usize == sequence;
+        owners[i] = b.set as usize;
+        offsets[i] = b.offset as usize;
+        bits[i] = c.bits as usize;
+        i += 1;
+    }
+    let own = g.binding;
+    let here = standard::check(
+        d.rows,
+        d.big,
+        &kept,
+        &owners,
+        &offsets,
+        &bits,
+        n,
+        file,
+        g.refused,
+        own.set as usize,
+        room,
+    );
+    let set = here.set;
+    let told = FileChecked {
+        refused: here.refused,
+        size: here.size,
+        set: set,
+        first: 0,
+    };
+    finish(q, g, told, d.rows)
 }
 
 // Whether the room keeps the index text.

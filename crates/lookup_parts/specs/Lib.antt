@@ -1,1 +1,2 @@
--- The contracts cite the definitions of `lookup_rules`.
+-- The contracts cite the definitions of `lookup_rules`, and what a question asks of a table.
+pub mod Taken

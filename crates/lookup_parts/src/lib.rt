@@ -1,15 +1,15 @@
 // The parts of a question over a table and a data file (document 01, "The questions"): the column and the manager that it is
 // about, the fresh plan, and whether a prepared plan, the row and a view pass.
 ghost use mathlib.Core.Path.{_≡_};
-ghost use mathlib.Core.Bool.{_&&_, _||_};
+ghost use mathlib.Core.Bool.{cond, _&&_, _||_};
 ghost use Prim.Native.Nat.{ℕ, _≤_, _<_};
-ghost use lib.Dec.{eqb};
+ghost use lib.Dec.{eqb, ltb};
 ghost use lib.ListN.{getD};
 ghost use Rattle.bytes_at.specs.First.{firstBelow};
 ghost use Rattle.bytes_at.specs.Stages.{_▷_, orNo};
 ghost use Rattle.column_desc.specs.ColumnDesc.{blank};
 ghost use Rattle.column_set.specs.ColumnSet.{noManager, noBinding};
-ghost use Rattle.standard_text.specs.Index.{noSet};
+ghost use Rattle.table.specs.declared.Description.{Description};
 ghost use Rattle.lookup_rules.specs.Questions.{
   rowOf,
   positionOf,
@@ -30,6 +30,7 @@ ghost use Rattle.lookup_rules.specs.Questions.{
   isSeen,
   noPlan,
 };
+ghost use Rattle.lookup_parts.specs.Taken.{Taken};
 use column_desc::Column;
 use column_set::Binding;
 use column_set::Kind;
@@ -38,8 +39,6 @@ use lookup_rules::FileChecked;
 use lookup_rules::Plan;
 use lookup_rules::Question;
 use lookup_rules::Target;
-use standard_text::Set;
-use table::Description;
 
 // One stage more: after a refusal nothing counts.
 pub fn stage(refused: usize, ok: bool, number: usize) -> usize
@@ -124,25 +123,37 @@ pub fn is_column(q: Question, count: usize) -> bool
     }
 }
 
-// The element at a position; the blank past the end.
-pub fn column_at(columns: [Column; 64], position: usize) -> Column
-    ensures { λ r. ⌜ r ≡ getD columns position blank ⌝ }
+// A place of a list of 64: that of a position, or some place where there is none.
+pub fn place_of(position: usize) -> usize
+    ensures { λ r. ⌜ (r < 64) × (position < 64 → r ≡ position) ⌝ }
 {
     if position < 64 {
-        return columns[position];
+        return position;
+    }
+    0
+}
+
+// The column that stands at a position; none past the end of the list.
+pub fn column_if(position: usize, column: Column) -> Column
+    ensures { λ r. ⌜ r ≡ cond (ltb position 64) column blank ⌝ }
+{
+    if position < 64 {
+        return column;
     }
     column_desc::no_column()
 }
 
-pub fn binding_at(bindings: [Binding; 64], position: usize) -> Binding
-    ensures { λ r. ⌜ r ≡ getD bindings position noBinding ⌝ }
+// Its binding; none past the end of the list.
+pub fn binding_if(position: usize, binding: Binding) -> Binding
+    ensures { λ r. ⌜ r ≡ cond (ltb position 64) binding noBinding ⌝ }
 {
     if position < 64 {
-        return bindings[position];
+        return binding;
     }
     column_set::no_binding()
 }
 
+// The manager at a place of the list; none past its end.
 pub fn manager_at(managers: [Manager; 16], i: usize) -> Manager
     ensures { λ r. ⌜ r ≡ getD managers i noManager ⌝ }
 {
@@ -150,15 +161,6 @@ pub fn manager_at(managers: [Manager; 16], i: usize) -> Manager
         return managers[i];
     }
     column_set::no_manager()
-}
-
-pub fn set_at(sets: [Set; 16], i: usize) -> Set
-    ensures { λ r. ⌜ r ≡ getD sets i noSet ⌝ }
-{
-    if i < 16 {
-        return sets[i];
-    }
-    standard_text::no_set()
 }
 
 // The first of the managers with the sequence number, or their number.
@@ -222,21 +224,25 @@ pub fn is_held(kind: Kind, placed: bool) -> bool
     }
 }
 
-// The column and the manager; 8 where there is none.
-pub fn find_target(d: Description, q: Question) -> Target
-    requires { ⌜ d .«manager_count» ≤ 16 ⌝ }
-    ensures { λ r. ⌜ r ≡ targetOf d q ⌝ }
+// The column and the manager; 8 where there is none. Of the description only the question's own column and binding are handed
+// over, so that the lists need not be copied.
+pub fn find_target(
+    refused: usize,
+    columns: usize,
+    managers: [Manager; 16],
+    count: usize,
+    c: Column,
+    b: Binding,
+    q: Question,
+) -> Target
+    requires { ⌜ count ≤ 16 ⌝ }
+    ensures { λ r. ⌜ ((d : Description) → Taken d q refused columns managers count c b → r ≡ targetOf d q) ⌝ }
 {
     let position = position_of(q);
-    let column = is_column(q, d.column_count);
-    let r1 = stage(d.refused, column, 8);
-    let bindings = d.bindings;
-    let b = binding_at(bindings, position);
+    let column = is_column(q, columns);
+    let r1 = stage(refused, column, 8);
     let sequence = sequence_of(q, b.sequence as usize);
-    let managers = d.managers;
-    let kind = kind_with(managers, d.manager_count, sequence);
-    let columns = d.columns;
-    let c = column_at(columns, position);
+    let kind = kind_with(managers, count, sequence);
     let t = c.datatype;
     let placed = is_placed(q, t.number as usize);
     let held = is_held(kind, placed);

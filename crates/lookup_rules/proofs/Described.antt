@@ -1,22 +1,42 @@
 -- What holds of every description, refused ones too.
 -- Assumes nothing.
-use mathlib.Core.Path.{_≡_, refl}
+use mathlib.Core.Path.{_≡_, refl, _∙_}
 use mathlib.Core.List.{List}
 use mathlib.Core.Bool.{Bool, true, false, cond}
-use Prim.Native.Nat.{ℕ, _≤_, zero-le}
+use Prim.Native.Nat.{ℕ, zero, suc, _≤_, zero-le}
 use lib.Dec.{eqb}
-use lib.ListN.{getD}
+use lib.ListN.{length, getD, length-set, length-replicate}
+use Rattle.bytes_at.specs.Loop.{after}
 use Rattle.bytes_at.specs.Steps.{_>>=_}
 use Rattle.aipsio.specs.declared.Cursor.{Cursor}
 use Rattle.aipsio.proofs.Bounds.{ranged-le}
-use Rattle.column_desc.specs.ColumnDesc.{blank}
+use Rattle.column_desc.specs.ColumnDesc.{blank, columnInto, noColumns, columnsAt}
+use Rattle.column_set.specs.declared.Owner.{Owner}
+use Rattle.column_set.specs.ColumnSet.{noBinding, bindingsAt}
 use Rattle.table.specs.declared.Description.{Description}
 use Rattle.table.specs.Table.{headAt, descHeadAt, describedAs, refusedWith}
 use Rattle.lookup_rules.proofs.WholeBytes.{Whole, no-columns-whole, columns-whole}
 
+-- the loops that fill the columns and their bindings keep the 64 places
+turns-long : (s : List ℕ) (c : Cursor) (n : ℕ) → length (after (columnInto s) (noColumns c) n .columns) ≡ 64
+unfolding after columnInto _>>=_
+turns-long s c zero = length-replicate 64 blank
+turns-long s c (suc n) = length-set (after (columnInto s) (noColumns c) n .columns) n _ ∙ turns-long s c n
+
+columns-long : (s : List ℕ) (c : Cursor) (n : ℕ) → length (columnsAt s c n .columns) ≡ 64
+unfolding columnsAt
+columns-long s c n = turns-long s c n
+
+bindings-long : (s : List ℕ) (owners : List Owner) (counts : List ℕ) (ours : List Bool) (starts : List ℕ) (n : ℕ) → length (bindingsAt s owners counts ours starts n) ≡ 64
+unfolding bindingsAt after
+bindings-long s owners counts ours starts zero = length-replicate 64 noBinding
+bindings-long s owners counts ours starts (suc n) = length-set (bindingsAt s owners counts ours starts n) n _ ∙ bindings-long s owners counts ours starts n
+
 pub record Described (d : Description) : Type 0 where
   pub rows-most : d .rows ≤ 2147483647
   pub columns-most : d .«column_count» ≤ 64
+  pub columns-places : length (d .columns) ≡ 64
+  pub bindings-places : length (d .bindings) ≡ 64
   -- the cells of a column that is none of Bools take whole bytes
   pub columns-whole : (i : ℕ) → Whole (getD (d .columns) i blank)
 
@@ -34,7 +54,13 @@ either false x y h k = k
 
 refused : (n : ℕ) → Described (refusedWith n)
 unfolding refusedWith
-refused n = record { rows-most = zero-le; columns-most = zero-le; columns-whole = no-columns-whole }
+refused n = record {
+  rows-most = zero-le;
+  columns-most = zero-le;
+  columns-places = length-replicate 64 blank;
+  bindings-places = length-replicate 64 noBinding;
+  columns-whole = no-columns-whole;
+}
 
 -- a line of the definition
 line : {A : Type 0} (a : A) (next : A → Description) → ((x : A) → x ≡ a → Described (next x)) → Described (a >>= next)
@@ -45,7 +71,13 @@ pub described : (t : List ℕ) → Described (describedAs t)
 unfolding describedAs
 described t =
     line _ _ (λ c _. line _ _ (λ m _. line _ _ (λ u _. line _ _ (λ head e. line _ _ (λ o _. line _ _ (λ n k. line _ _ (λ cs x. line _ _ (λ end _. line _ _ (λ set _.
-    line _ _ (λ ms _. line _ _ (λ os _. line _ _ (λ is _. line _ _ (λ d _. line _ _ (λ bs _.
+    line _ _ (λ ms _. line _ _ (λ os _. line _ _ (λ is _. line _ _ (λ d _. line _ _ (λ bs y.
     either (eqb (d .refused) 0) _ _
-    (record { rows-most = rw e (head-most t (u .next)); columns-most = rw k (count-most t (o .next)); columns-whole = rw x (columns-whole t (n .next) (n .count)) })
+    (record {
+      rows-most = rw e (head-most t (u .next));
+      columns-most = rw k (count-most t (o .next));
+      columns-places = rw x (columns-long t (n .next) (n .count));
+      bindings-places = rw y (bindings-long t (os .owners) (os .counts) (ms .ours) (is .starts) (n .count));
+      columns-whole = rw x (columns-whole t (n .next) (n .count));
+    })
     (refused (d .refused))))))))))))))))

@@ -15,9 +15,9 @@ use Rattle.lookup_rules.specs.declared.Target.{Target}
 use Rattle.lookup_rules.specs.declared.FileChecked.{FileChecked}
 use Rattle.lookup_rules.specs.Questions.{ofStandard, ofIncremental, fileOf, planFor}
 
-check-passed : (d : Description) (sequence : ℕ) (f : List ℕ) (refused l : ℕ) → checkedAs d sequence f refused l .refused ≡ refusalOf d sequence f refused l
+check-passed : (d : Description) (sequence : ℕ) (f : List ℕ) (refused k l : ℕ) → checkedAs d sequence f refused k l .refused ≡ refusalOf d sequence f refused l
 unfolding checkedAs
-check-passed d sequence f refused l = elim (ℕ-discrete (refusalOf d sequence f refused l) 0) [
+check-passed d sequence f refused k l = elim (ℕ-discrete (refusalOf d sequence f refused l) 0) [
   | yes e ↦ rw (eq-eqb (refusalOf d sequence f refused l) 0 e) (sym e)
   | no n ↦ rw (ne-eqb (refusalOf d sequence f refused l) 0 n)
 ]
@@ -51,7 +51,7 @@ cond-set true x x′ y e = e
 cond-set false x x′ y e = refl
 
 module _ (d : Description) (g : Target) (f : List ℕ) (l : ℕ) where
-  pub file-standard : g .incremental ≡ false → (row : ℕ) → fileOf d g f row l ≡ ofStandard (checkedAs d (g .sequence) f (g .refused) l) (g .binding .set)
+  pub file-standard : g .incremental ≡ false → (row : ℕ) → fileOf d g f row l ≡ ofStandard (checkedAs d (g .sequence) f (g .refused) (g .binding .set) l)
   unfolding fileOf
   file-standard e row = rw e
 
@@ -61,7 +61,7 @@ module _ (d : Description) (g : Target) (f : List ℕ) (l : ℕ) where
   file-incremental e row = rw e
 
   pub standard-refused : g .incremental ≡ false → (row : ℕ) → fileOf d g f row l .refused ≡ refusalOf d (g .sequence) f (g .refused) l
-  standard-refused e row = ap (λ (m : FileChecked). m .refused) (file-standard e row) ∙ check-passed d (g .sequence) f (g .refused) l
+  standard-refused e row = ap (λ (m : FileChecked). m .refused) (file-standard e row) ∙ check-passed d (g .sequence) f (g .refused) (g .binding .set) l
 
   pub incremental-refused : g .incremental ≡ true → (row : ℕ) → fileOf d g f row l .refused ≡ incrementalRefusal d (g .sequence) f (g .refused)
   incremental-refused e row =

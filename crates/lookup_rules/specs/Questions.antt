@@ -130,15 +130,15 @@ targetOf d q = do
   record { refused = r2; position = position; sequence = sequence; incremental = incremental; column = c; binding = b }
 
 -- the check of the manager's file, by its kind
-abbrev pub ofStandard : Checked → ℕ → FileChecked
-ofStandard m set = record { refused = m .refused; size = m .size; set = getD (m .sets) set noSet; first = 0 }
+abbrev pub ofStandard : Checked → FileChecked
+ofStandard m = record { refused = m .refused; size = m .size; set = m .set; first = 0 }
 
 abbrev pub ofIncremental : IncrementalChecked → FileChecked
 ofIncremental m = record { refused = m .refused; size = m .size; set = noSet; first = m .first }
 
 unfoldable pub fileOf : Description → Target → List ℕ → ℕ → ℕ → FileChecked
 fileOf d g f row l =
-    let standard = ofStandard (checkedAs d (g .sequence) f (g .refused) l) (g .binding .set) in
+    let standard = ofStandard (checkedAs d (g .sequence) f (g .refused) (g .binding .set) l) in
     let incremental = ofIncremental (incrementalAs d (g .sequence) f (g .refused) (g .position) row) in
     cond (g .incremental) incremental standard
 

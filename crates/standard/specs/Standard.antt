@@ -1,16 +1,27 @@
--- What the check of a StandardStMan file gives.
+-- What the check of a StandardStMan file gives, and of which tables.
 use Prim.Native.Nat.{ℕ}
-use lib.ListN.{replicate}
+use mathlib.Core.Path.{_≡_}
+use mathlib.Core.Bool.{Bool}
+use mathlib.Core.List.{List}
 use lib.Dec.{leb}
 use Rattle.bytes_at.specs.Stages.{_▷_, orNo}
+use Rattle.table.specs.declared.Description.{Description}
+use Rattle.cell_map.specs.Map.{Column as MapColumn}
 use Rattle.standard_text.specs.declared.Header.{Header}
 use Rattle.manager_file.specs.Start.{longEnough}
 use Rattle.standard_text.specs.Index.{noSet}
 use Rattle.standard_rules.specs.declared.Checked.{Checked}
+use Rattle.standard_rules.specs.Rules.{columnsOf}
+
+-- the row count, the endianness and the columns are those of a table, as the manager with the sequence number keeps them
+pub record Given (d : Description) (sequence rows : ℕ) (big : Bool) (columns : List MapColumn) : Type 0 where
+  pub rows-are : d .rows ≡ rows
+  pub big-is : d .big ≡ big
+  pub columns-are : columnsOf d sequence ≡ columns
 
 -- "A refusal carries its number and zeros."
 unfoldable pub refusedFile : ℕ → Checked
-refusedFile number = record { refused = number; size = 0; sets = replicate 16 noSet }
+refusedFile number = record { refused = number; size = 0; set = noSet }
 
 -- "header, file length (1), room (13)", after the refusal so far
 unfoldable pub beforeIndex : ℕ → Header → ℕ → ℕ → ℕ

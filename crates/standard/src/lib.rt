@@ -1,38 +1,60 @@
-// The check of a StandardStMan file (document 01, "StandardStMan").
+// The check of a StandardStMan file (document 01, "StandardStMan"). The columns of the table are lent by position, as
+// `standard_columns` takes them.
 ghost use mathlib.Core.Path.{_≡_};
 ghost use Prim.Native.Nat.{ℕ, _≤_, _<_};
 ghost use lib.ListN.{length, getD};
+ghost use Rattle.table.specs.declared.Description.{Description};
 ghost use Rattle.buckets.specs.Chain.{Area, padded};
 ghost use Rattle.cell_map.specs.Fits.{fits};
 ghost use Rattle.standard_text.specs.Header.{headerAt};
 ghost use Rattle.standard_text.specs.Index.{noSet, SetInside};
-ghost use Rattle.standard_rules.specs.Rules.{textOf, setsFrom, columnsFrom, mapWith, checkedAs};
-ghost use Rattle.standard.specs.Standard.{beforeIndex, refusedFile};
+ghost use Rattle.standard_rules.specs.Rules.{textOf, setsFrom, mapWith, checkedAs};
+ghost use Rattle.standard_columns.specs.Columns.{columnsBy};
+ghost use Rattle.standard.specs.Standard.{Given, beforeIndex, refusedFile};
 use standard_rules::Checked;
 use standard_text::Header;
 use standard_text::Set;
-use table::Description;
 
-// Whether the map of rows, buckets and extents is right.
+// Whether the map of rows, buckets and extents is right. The sets' numbers are put into lists, since those can be lent.
 fn map_fits(
     f: &[u8],
     h: Header,
     text: &[u8],
     sets: [Set; 16],
-    d: Description,
-    sequence: usize,
+    rows: usize,
+    kept: &[bool; 64],
+    owners: &[usize; 64],
+    offsets: &[usize; 64],
+    bits: &[usize; 64],
+    n: usize,
 ) -> bool
     requires { ⌜ Area (now f) (h .size) (h .count) ⌝ }
-    requires { ⌜ (d .«column_count» ≤ 64) × (h .sets ≤ 16) × ((k : ℕ) → k < h .sets → SetInside (length (now text)) 4 (getD sets k noSet)) ⌝ }
-    ensures { λ r. ⌜ r ≡ fits (mapWith (d .rows) (columnsFrom sequence (d .columns) (d .bindings) (d .«column_count») 0) (now (f .entry)) h (setsFrom (now (text .entry)) sets (h .sets) 0)) ⌝ }
+    requires { ⌜ (n ≤ 64) × (h .sets ≤ 16) × ((k : ℕ) → k < h .sets → SetInside (length (now text)) 4 (getD sets k noSet)) ⌝ }
+    requires { ⌜ ((i : ℕ) → i < n → getD (now offsets) i 0 < 4294967296) × ((i : ℕ) → i < n → getD (now bits) i 0 < 4294967296) ⌝ }
+    ensures { λ r. ⌜ r ≡ fits (mapWith rows (columnsBy (now (kept .entry)) (now (owners .entry)) (now (offsets .entry)) (now (bits .entry)) n 0) (now (f .entry)) h (setsFrom (now (text .entry)) sets (h .sets) 0)) ⌝ }
 {
     let m = h.sets;
     let size = h.size;
     let count = h.count;
-    if !standard_sets::sets_fit(text, sets, m, d.rows) {
+    let mut entries = [0usize; 16];
+    let mut pers = [0usize; 16];
+    let mut columns = [0usize; 16];
+    let mut lasts = [0usize; 16];
+    let mut buckets = [0usize; 16];
+    let mut k = 0;
+    while k < m {
+        let s = sets[k];
+        entries[k] = s.entries;
+        pers[k] = s.per;
+        columns[k] = s.columns;
+        lasts[k] = s.lasts;
+        buckets[k] = s.buckets;
+        k += 1;
+    }
+    if !standard_sets::sets_fit(text, &entries, &pers, &lasts, m, rows) {
         return false;
     }
-    if !standard_columns::columns_fit(d, sequence, sets, m, size) {
+    if !standard_columns::columns_fit(kept, owners, offsets, bits, n, &pers, &columns, m, size) {
         return false;
     }
     standard_sets::buckets_apart(
@@ -40,7 +62,8 @@ fn map_fits(
         size,
         count,
         text,
-        sets,
+        &entries,
+        &buckets,
         m,
         h.index_count,
         h.first_index,
@@ -78,17 +101,30 @@ fn refuse(number: usize) -> Checked
     Checked {
         refused: number,
         size: 0,
-        sets: [none; 16],
+        set: none,
     }
 }
 
-// The check of the file of the manager with a sequence number, after the refusal so far. Where nothing is refused, the room
-// holds the index text, then zeros; where something is, it may hold anything.
-pub fn check(d: Description, f: &[u8], sequence: usize, refused: usize, room: &mut [u8]) -> Checked
-    requires { ⌜ d .«column_count» ≤ 64 ⌝ }
-    ensures { λ r. ⌜ (r ≡ checkedAs d sequence (now (f .entry)) refused (length (now (room .entry)))) × (r .refused ≡ 0 → now (room .exit) ≡ padded (length (now (room .entry))) (textOf (now (f .entry)) (headerAt (now (f .entry)) (d .big)))) ⌝ }
+// The check of a manager's file, after the refusal so far, where set k is asked for. Where nothing is refused, the room holds the
+// index text, then zeros; where something is, it may hold anything.
+pub fn check(
+    rows: usize,
+    big: bool,
+    kept: &[bool; 64],
+    owners: &[usize; 64],
+    offsets: &[usize; 64],
+    bits: &[usize; 64],
+    n: usize,
+    f: &[u8],
+    refused: usize,
+    k: usize,
+    room: &mut [u8],
+) -> Checked
+    requires { ⌜ n ≤ 64 ⌝ }
+    requires { ⌜ ((i : ℕ) → i < n → getD (now offsets) i 0 < 4294967296) × ((i : ℕ) → i < n → getD (now bits) i 0 < 4294967296) ⌝ }
+    ensures { λ r. ⌜ ((d : Description) (sequence : ℕ) → Given d sequence rows big (columnsBy (now (kept .entry)) (now (owners .entry)) (now (offsets .entry)) (now (bits .entry)) n 0) → r ≡ checkedAs d sequence (now (f .entry)) refused k (length (now (room .entry)))) × (r .refused ≡ 0 → now (room .exit) ≡ padded (length (now (room .entry))) (textOf (now (f .entry)) (headerAt (now (f .entry)) big))) ⌝ }
 {
-    let h = standard_text::read_header(f, d.big);
+    let h = standard_text::read_header(f, big);
     let first = before_index(refused, h, f.len(), room.len());
     if first != 0 {
         return refuse(first);
@@ -115,12 +151,21 @@ pub fn check(d: Description, f: &[u8], sequence: usize, refused: usize, room: &m
         return refuse(10);
     }
     let sets = index.sets;
-    if !map_fits(f, h, text, sets, d, sequence) {
+    if !map_fits(f, h, text, sets, rows, kept, owners, offsets, bits, n) {
         return refuse(11);
     }
+    if k < 16 {
+        let set = index.sets[k];
+        return Checked {
+            refused: 0,
+            size: h.size,
+            set: set,
+        };
+    }
+    let none = standard_text::no_set();
     Checked {
         refused: 0,
         size: h.size,
-        sets: sets,
+        set: none,
     }
 }

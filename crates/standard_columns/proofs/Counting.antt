@@ -2,7 +2,7 @@
 -- Assumes nothing.
 use mathlib.Core.Path.{_≡_, refl, sym, ap, _∙_}
 use mathlib.Core.Bool.{Bool, true, false, cond, _&&_}
-use mathlib.Core.List.{List, []}
+use mathlib.Core.List.{List}
 use Prim.Native.Nat.{ℕ, zero, suc, _+_, _-_, _≤_, _<_, zero-le}
 use native.Mathlib.Decide.{ℕ-discrete, decLt}
 use native.Mathlib.Numerals.{add-one}
@@ -11,18 +11,11 @@ use lib.ListN.{length, getD, set, replicate, length-set, getD-replicate, List·g
 use lib.Seq.{getD-set-same, getD-set-other}
 use lib.Dec.{eqb}
 use borrow.Author.Tests.{eq-eqb, ne-eqb}
-use Rattle.column_desc.specs.declared.Column.{Column}
-use Rattle.column_set.specs.declared.Binding.{Binding}
-use Rattle.column_set.specs.ColumnSet.{noBinding}
-use Rattle.cell_map.specs.Tests.{allFrom}
 use Rattle.cell_map.specs.Map.{Column as MapColumn}
-use Rattle.cell_map.specs.Fits.{boundTo, countFits}
-use Rattle.standard_text.specs.declared.Set.{Set}
-use Rattle.standard_text.specs.Index.{noSet}
-use Rattle.standard_rules.specs.Rules.{setsFrom, columnsFrom}
-use Rattle.standard_columns.specs.Columns.{oneMore, Counted, CountsFit}
+use Rattle.cell_map.specs.Fits.{boundTo}
+use Rattle.standard_columns.specs.Columns.{columnBy, columnsBy, oneMore, Counted, countsFit}
 use Rattle.standard_columns.proofs.Listed.{listed}
-use Rattle.standard_columns.proofs.Facts.{columnIn, columns-listed}
+use Rattle.standard_columns.proofs.Facts.{columns-listed}
 
 -- one more where a test passes
 abbrev more : Bool → ℕ → ℕ
@@ -64,79 +57,71 @@ one-more-length : (kept : Bool) (s : ℕ) (counts : List ℕ) → length (oneMor
 one-more-length true s counts = length-set counts s (getD counts s 0 + 1)
 one-more-length false s counts = refl
 
--- ---- counting: the first i columns are counted
-pub record Counting (sequence : ℕ) (bs : List Binding) (n : ℕ) (counts : List ℕ) (i : ℕ) : Type 0 where
+-- ---- counting: of the columns f 0, f 1, .., n in all, the first i are counted
+pub record Counting (f : ℕ → MapColumn) (n : ℕ) (counts : List ℕ) (i : ℕ) : Type 0 where
   pub within : i ≤ n
   pub long : length counts ≡ 16
-  pub counted : (cs : List Column) → Counted counts (columnsFrom sequence cs bs i 0)
+  pub counted : Counted counts (listed f i 0)
 
-pub counting-start : (sequence : ℕ) (bs : List Binding) (n : ℕ) → Counting sequence bs n (replicate 16 0) 0
-unfolding columnsFrom boundTo
-counting-start sequence bs n = record { within = zero-le; long = refl; counted = λ cs k h. getD-replicate 16 k 0 0 h }
+pub counting-start : (f : ℕ → MapColumn) (n : ℕ) → Counting f n (replicate 16 0) 0
+unfolding listed boundTo
+counting-start f n = record { within = zero-le; long = refl; counted = λ k h. getD-replicate 16 k 0 0 h }
 
-module _ {sequence : ℕ} {bs : List Binding} {n : ℕ} {counts : List ℕ} {i : ℕ} (v : Counting sequence bs n counts i) where
+module _ {f : ℕ → MapColumn} {n : ℕ} {counts : List ℕ} {i : ℕ} (v : Counting f n counts i) where
   -- no count overflows
   pub counting-le : n ≤ 64 → (k : ℕ) → getD counts k 0 ≤ 64
   counting-le h k = elim (decLt k 16) [
-    | yes l ↦
-        let e : getD counts k 0 ≡ boundTo k (listed (columnIn sequence [] bs) i 0) = v .counted [] k l ∙ ap (boundTo k) (columns-listed sequence [] bs i 0) in
-        omega (arith, e, v .within, bound-le (columnIn sequence [] bs) k i 0)
+    | yes l ↦ omega (arith, v .counted k l, v .within, bound-le f k i 0)
     | no l ↦ omega (arith, List·getD-eq-default counts 0 {n = k} (omega (arith, v .long)))
   ]
 
-  pub counting-again : {r : List ℕ} → i < n → r ≡ oneMore (eqb (getD bs i noBinding .sequence) sequence) (getD bs i noBinding .set) counts
-      → Counting sequence bs n r (i + 1)
+  pub counting-again : {r : List ℕ} → i < n → r ≡ oneMore (f i .kept) (f i .set) counts → Counting f n r (i + 1)
   counting-again {r} h e =
-      let kept = eqb (getD bs i noBinding .sequence) sequence in
-      let s = getD bs i noBinding .set in
+      let kept = f i .kept in
+      let s = f i .set in
       record {
         within = omega arith;
         long = ap length e ∙ one-more-length kept s counts ∙ v .long;
-        counted = λ cs k l.
+        counted = λ k l.
             let z : i + 0 ≡ i = omega arith in
-            let step : boundTo k (columnsFrom sequence cs bs (suc i) 0) ≡ more (kept && eqb s k) (boundTo k (columnsFrom sequence cs bs i 0)) =
-            rw (columns-listed sequence cs bs (suc i) 0, columns-listed sequence cs bs i 0) (bound-more (columnIn sequence cs bs) k i 0 ∙ rw z)
-            in
+            let step : boundTo k (listed f (suc i) 0) ≡ more (kept && eqb s k) (boundTo k (listed f i 0)) = bound-more f k i 0 ∙ rw z in
             ap (λ x. getD x k 0) e
             ∙ one-more-at kept s counts k (omega (arith, v .long))
-            ∙ ap (more (kept && eqb s k)) (v .counted cs k l)
+            ∙ ap (more (kept && eqb s k)) (v .counted k l)
             ∙ sym step
-            ∙ ap (λ j. boundTo k (columnsFrom sequence cs bs j 0)) (sym (add-one i));
+            ∙ ap (λ j. boundTo k (listed f j 0)) (sym (add-one i));
       }
 
-  pub counting-end : n ≤ i → (cs : List Column) → Counted counts (columnsFrom sequence cs bs n 0)
-  counting-end h = let e : i ≡ n = omega (arith, v .within) in rw (← e) (v .counted)
+pub counting-end : (kept : List Bool) (sets offsets bits : List ℕ) {counts : List ℕ} {n i : ℕ} → Counting (columnBy kept sets offsets bits) n counts i → n ≤ i
+    → Counted counts (columnsBy kept sets offsets bits n 0)
+counting-end kept sets offsets bits {counts} {n} {i} v h =
+    let e : i ≡ n = omega (arith, v .within) in
+    rw (columns-listed kept sets offsets bits n 0, ← e) (v .counted)
 
 -- ---- comparing: whatever columns the counts are of, the test of the sets from k on is the test of all
-pub record Comparing (counts : List ℕ) (sets : List Set) (m k : ℕ) : Type 0 where
+pub record Comparing (counts columns : List ℕ) (m k : ℕ) : Type 0 where
   pub within : k ≤ m
-  pub same : (text : List ℕ) (l : List MapColumn) → Counted counts l
-      → allFrom (countFits l) 0 (setsFrom text sets m 0) ≡ allFrom (countFits l) k (setsFrom text sets (m - k) k)
+  pub same : (l : List MapColumn) → Counted counts l → countsFit l columns m 0 ≡ countsFit l columns (m - k) k
 
-pub comparing-start : (counts : List ℕ) (sets : List Set) (m : ℕ) → Comparing counts sets m 0
-comparing-start counts sets m =
+pub comparing-start : (counts columns : List ℕ) (m : ℕ) → Comparing counts columns m 0
+comparing-start counts columns m =
     let e : m ≡ m - 0 = omega arith in
-    record { within = zero-le; same = λ text l w. ap (λ j. allFrom (countFits l) 0 (setsFrom text sets j 0)) e }
+    record { within = zero-le; same = λ l w. ap (λ j. countsFit l columns j 0) e }
 
-module _ {counts : List ℕ} {sets : List Set} {m k : ℕ} (v : Comparing counts sets m k) where
-  one : (text : List ℕ) (l : List MapColumn) → Counted counts l → m ≤ 16 → k < m
-      → allFrom (countFits l) 0 (setsFrom text sets m 0)
-      ≡ (eqb (getD counts k 0) (getD sets k noSet .columns) && allFrom (countFits l) (k + 1) (setsFrom text sets (m - (k + 1)) (k + 1)))
-  unfolding allFrom setsFrom
-  one text l w g h =
+module _ {counts columns : List ℕ} {m k : ℕ} (v : Comparing counts columns m k) where
+  one : (l : List MapColumn) → Counted counts l → m ≤ 16 → k < m
+      → countsFit l columns m 0 ≡ (eqb (getD counts k 0) (getD columns k 0) && countsFit l columns (m - (k + 1)) (k + 1))
+  unfolding countsFit
+  one l w g h =
       let e : m - k ≡ suc (m - (k + 1)) = omega arith in
-      v .same text l w ∙ rw (e, add-one, w k (omega arith))
+      v .same l w ∙ rw (e, add-one, w k (omega arith))
 
-  pub comparing-again : m ≤ 16 → k < m → getD counts k 0 ≡ getD sets k noSet .columns → Comparing counts sets m (k + 1)
-  comparing-again g h q =
-      record {
-        within = omega arith;
-        same = λ text l w. one text l w g h ∙ rw (eq-eqb (getD counts k 0) (getD sets k noSet .columns) q);
-      }
+  pub comparing-again : m ≤ 16 → k < m → getD counts k 0 ≡ getD columns k 0 → Comparing counts columns m (k + 1)
+  comparing-again g h q = record { within = omega arith; same = λ l w. one l w g h ∙ rw (eq-eqb (getD counts k 0) (getD columns k 0) q) }
 
-  pub comparing-not : m ≤ 16 → k < m → (getD counts k 0 ≡ getD sets k noSet .columns → ⊥) → CountsFit false counts sets m
-  comparing-not g h q text l w = sym (one text l w g h ∙ rw (ne-eqb (getD counts k 0) (getD sets k noSet .columns) q))
+  pub comparing-not : m ≤ 16 → k < m → (getD counts k 0 ≡ getD columns k 0 → ⊥) → (l : List MapColumn) → Counted counts l → false ≡ countsFit l columns m 0
+  comparing-not g h q l w = sym (one l w g h ∙ rw (ne-eqb (getD counts k 0) (getD columns k 0) q))
 
-  pub comparing-end : m ≤ k → CountsFit true counts sets m
-  unfolding allFrom setsFrom
-  comparing-end h text l w = let e : m - k ≡ 0 = omega arith in sym (v .same text l w ∙ rw e)
+  pub comparing-end : m ≤ k → (l : List MapColumn) → Counted counts l → true ≡ countsFit l columns m 0
+  unfolding countsFit
+  comparing-end h l w = let e : m - k ≡ 0 = omega arith in sym (v .same l w ∙ rw e)

@@ -1,18 +1,22 @@
--- Document 01, "StandardStMan", Map: the columns of each set and their extents, over the sets as the index text gives them.
+-- Document 01, "StandardStMan", Map: the columns of each set and their extents, over columns and sets that are given by position.
+use mathlib.Core.Bool.{Bool, true, false, cond, _&&_}
+use mathlib.Core.List.{List, [], _∷_, map}
 use mathlib.Core.Path.{_≡_}
-use mathlib.Core.Bool.{Bool, cond, _&&_}
-use mathlib.Core.List.{List, map}
-use Prim.Native.Nat.{ℕ, _+_, _<_}
+use Prim.Native.Nat.{ℕ, zero, suc, _+_, _<_}
+use lib.Dec.{eqb}
 use lib.ListN.{getD, set}
-use lib.Dec.{ltb}
-use Rattle.column_desc.specs.declared.Column.{Column}
-use Rattle.column_set.specs.declared.Binding.{Binding}
-use Rattle.cell_map.specs.Tests.{all, allFrom, pairs}
-use Rattle.cell_map.specs.Map.{Column as MapColumn, Set as MapSet}
-use Rattle.cell_map.specs.Fits.{Extent, boundTo, countFits, setKnown, inBucket, clear, endOf}
-use Rattle.standard_text.specs.declared.Set.{Set}
-use Rattle.standard_text.specs.Index.{noSet}
-use Rattle.standard_rules.specs.Rules.{setsFrom, columnsFrom}
+use Rattle.cell_map.specs.Tests.{all, pairs}
+use Rattle.cell_map.specs.Map.{Column as MapColumn}
+use Rattle.cell_map.specs.Fits.{Extent, boundTo, setKnown, inBucket, clear, endOf}
+
+-- the column at position i: whether it is kept in the file, its set, its offset, and the bits of a cell
+abbrev pub columnBy : List Bool → List ℕ → List ℕ → List ℕ → ℕ → MapColumn
+columnBy kept sets offsets bits i = record { kept = getD kept i false; set = getD sets i 0; offset = getD offsets i 0; bits = getD bits i 0 }
+
+-- n columns from column i on
+unfoldable pub columnsBy : List Bool → List ℕ → List ℕ → List ℕ → ℕ → ℕ → List MapColumn
+columnsBy kept sets offsets bits zero i = []
+columnsBy kept sets offsets bits (suc n) i = columnBy kept sets offsets bits i ∷ columnsBy kept sets offsets bits n (suc i)
 
 -- one more at place k of a list of counts, where the column is kept
 abbrev pub oneMore : Bool → ℕ → List ℕ → List ℕ
@@ -22,30 +26,21 @@ oneMore kept k counts = cond kept (set counts k (getD counts k 0 + 1)) counts
 abbrev pub Counted : List ℕ → List MapColumn → Type 0
 Counted counts l = (k : ℕ) → k < 16 → getD counts k 0 ≡ boundTo k l
 
--- "the column count agrees with DMInfo", of m sets: r tells whether, of any columns that are so counted. Only the sets' column
--- counts count: it holds for any text.
-abbrev pub CountsFit : Bool → List ℕ → List Set → ℕ → Type 0
-CountsFit r counts sets m =
-    (text : List ℕ) (l : List MapColumn) → Counted counts l → r ≡ allFrom (countFits l) 0 (setsFrom text sets m 0)
-
--- the rows per bucket of set k, 0 where it is not one of the m
-unfoldable pub perOf : List Set → ℕ → ℕ → ℕ
-perOf sets m k = cond (ltb k m) (getD sets k noSet .per) 0
+-- "the column count agrees with DMInfo", of m sets from set k on, whose column counts are given
+unfoldable pub countsFit : List MapColumn → List ℕ → ℕ → ℕ → Bool
+countsFit l columns zero k = true
+countsFit l columns (suc m) k = let rest = countsFit l columns m (suc k) in eqb (boundTo k l) (getD columns k 0) && rest
 
 -- "each column's extent, offset to offset + ceiling(rows per bucket x cell bits / 8)", by the rows per bucket of each set
 abbrev pub extentBy : (ℕ → ℕ) → MapColumn → Extent
 extentBy per c = record { kept = c .kept; set = c .set; start = c .offset; end = endOf (c .offset) (per (c .set)) (c .bits) }
 
--- the same, by m sets
-abbrev pub extentIn : List Set → ℕ → MapColumn → Extent
-extentIn sets m c = extentBy (perOf sets m) c
+-- the extents of columns, by a list of rows per bucket
+abbrev pub extentsBy : List ℕ → List MapColumn → List Extent
+extentsBy pers l = map (extentBy (λ k. getD pers k 0)) l
 
--- the column counts, the sets that are named, and the extents in the bucket and apart
-abbrev pub columnsTest : List MapColumn → List MapSet → List Extent → ℕ → ℕ → Bool
-columnsTest l sets extents m size =
-    ((all (setKnown m) l && all (inBucket size) extents) && allFrom (countFits l) 0 sets) && pairs clear extents
-
--- the map's test of the columns, of m sets in buckets of a size: r tells whether. It holds for any text.
-abbrev pub ColumnsFit : Bool → ℕ → List Column → List Binding → ℕ → List Set → ℕ → ℕ → Type 0
-ColumnsFit r sequence cs bs n sets m size =
-    (text : List ℕ) → r ≡ columnsTest (columnsFrom sequence cs bs n 0) (setsFrom text sets m 0) (map (extentIn sets m) (columnsFrom sequence cs bs n 0)) m size
+-- the map's test of the columns, of m sets whose rows per bucket and column counts are given, in buckets of a size: the sets that
+-- are named, the extents in the bucket, the column counts, and the extents apart
+unfoldable pub columnsTest : List MapColumn → List ℕ → List ℕ → ℕ → ℕ → Bool
+columnsTest l pers columns m size =
+    ((all (setKnown m) l && all (inBucket size) (extentsBy pers l)) && countsFit l columns m 0) && pairs clear (extentsBy pers l)

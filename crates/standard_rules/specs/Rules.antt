@@ -2,7 +2,7 @@
 use Prim.Native.Nat.{ℕ, zero, suc}
 use mathlib.Core.List.{List, [], _∷_}
 use mathlib.Core.Bool.{true, cond}
-use lib.ListN.{length, getD, replicate}
+use lib.ListN.{length, getD}
 use lib.Dec.{eqb, leb}
 use Rattle.bytes_at.specs.Stages.{_▷_, orNo}
 use Rattle.column_desc.specs.declared.Column.{Column}
@@ -85,11 +85,11 @@ refusalOf d sequence f refused l =
     ▷ orNo (freeOk f (h .size) (h .count) (h .«free_count») (h .«first_free»)) 10
     ▷ orNo (fits (mapOf d sequence f)) 11
 
--- "A refusal carries its number and zeros."
-unfoldable pub checkedAs : Description → ℕ → List ℕ → ℕ → ℕ → Checked
-checkedAs d sequence f refused l =
+-- What the check tells, where set k is asked for; "A refusal carries its number and zeros".
+unfoldable pub checkedAs : Description → ℕ → List ℕ → ℕ → ℕ → ℕ → Checked
+checkedAs d sequence f refused k l =
     let h = headerAt f (d .big) in
     let number = refusalOf d sequence f refused l in
     cond (eqb number 0)
-    (record { refused = 0; size = h .size; sets = indexAt (textOf f h) (h .sets) .sets })
-    (record { refused = number; size = 0; sets = replicate 16 noSet })
+    (record { refused = 0; size = h .size; set = getD (indexAt (textOf f h) (h .sets) .sets) k noSet })
+    (record { refused = number; size = 0; set = noSet })

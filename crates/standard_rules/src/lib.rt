@@ -2,9 +2,10 @@
 // follows them is in `standard`.
 use standard_text::Set;
 
-// What the check of a file tells: the bucket size and the sets of its index; zeros and the number where it is refused.
+// What the check of a file tells: the bucket size, and where the set that was asked for stands in the index text; zeros and the
+// number where it is refused.
 pub struct Checked {
     pub refused: usize,
     pub size: usize,
-    pub sets: [Set; 16],
+    pub set: Set,
 }

@@ -1,47 +1,91 @@
--- `lookup::stages` meets its contract: its calls compose as the definition says.
+-- `lookup::stages` meets its contract. The loop's invariant: the numbers of the first i columns are taken.
+use Prim.Native.Nat.{_-_}
+use native.Mathlib.Omega.{arith}
 use borrow.Author.Needs.{needs}
-use mathlib.Core.Path.{refl}
-use Rattle.bytes_at.proofs.Stepped.{via, free}
-use Rattle.lookup_rules.specs.Questions.{stagesOf}
-use Rattle.lookup.proofs.Laws.{passed, room-text}
+use Rattle.bytes_at.proofs.Stepped.{free}
+use Rattle.column_desc.specs.ColumnDesc.{blank}
+use Rattle.column_set.specs.ColumnSet.{noBinding}
+use Rattle.lookup.proofs.Gathering.{Gathering, gathering-start, gathering-again, offsets-low, bits-low, given}
+use Rattle.lookup.proofs.Laws.{taken, reached-there, reached-here, no-text, room-text}
 use Rattle.lookup.proofs.stages.Statement.{statement}
 use Rattle.lookup.proofs.stages.Tie as tie
 
-returns : tie.Need-returns
-unfolding stagesOf
+abbrev Inv-loop : tie.InvT-loop
+Inv-loop table file q room d position at g n sequence kept₀ owners₀ offsets₀ bits₀ i₀ kept owners offsets bits i =
+    Gathering sequence (d .columns) (d .bindings) n kept owners offsets bits i
+
+abbrev μ-loop : tie.MeasureT-loop
+μ-loop table file q room d position at g n sequence kept₀ owners₀ offsets₀ bits₀ i₀ kept owners offsets bits i = n - i
+
+returns : tie.Need-returns Inv-loop μ-loop
+unfolding blank noBinding
 returns c = (
   (
-    via _ (c .before .before .before .before .before .before .before .before .before .before .before .before .before .before .describe .ensures .0)
-        (via _ (c .before .before .before .before .before .before .before .before .before .before .before .before .before .find-target .ensures)
-        (via _ (c .before .before .before .before .before .before .before .before .before .before .before .before .row-of .ensures)
-        (via _ (c .before .before .before .before .before .before .before .before .before .before .check-file .ensures .0)
-        (via _ (c .before .before .before .before .before .before .before .plan-for .ensures .0)
-        (via _ (c .before .before .before .before .before .fresh .ensures)
-        (via _ (c .before .before .before .before .stage .ensures)
-        (via _ (c .before .before .before .below .ensures)
-        (via _ (c .before .before .stage2 .ensures)
-        (via _ (c .before .seen .ensures)
-        (via _ (c .stage3 .ensures)
-        refl)))))))))),
-    λ z k. room-text _ _ _ (c .before .before .before .before .before .before .before .before .before .before .before .before .before .before .describe .ensures .0) (c .before .before .before .before .before .before .before .before .before .before .check-file .ensures .1 (passed _ _ _ _ (c .before .before .before .before .stage .ensures) (c .before .before .stage2 .ensures) (c .stage3 .ensures) z) k),
+    c .finish .ensures .0 .0 _ _ _ (reached-there _ _ (c .before .before .before .before .before .before .before .before .before .before .before .before .before .describe .ensures .0) _ _ (c .before .before .before .before .before .find-target .ensures _ (taken _ _ (c .before .before .before .before .before .before .before .before .before .before .before .before .before .describe .ensures .0) (c .before .before .before .before .before .before .before .before .before .before .before .before .position-of .ensures) (c .before .before .before .before .before .before .before .before .before .before .before .place-of .ensures .1) (c .before .before .before .before .before .before .before .before .column-if .ensures) (c .before .before .before .before .before .before .before .binding-if .ensures))) (c .before .before .before .before .if1 .taken) (c .before .before .before .row-of .ensures) (c .before .before .check .ensures) (c .before .no-set .ensures)),
+    λ z k. no-text (c .before .before .before .before .if1 .taken) (c .finish .ensures .0 .2) k,
   ),
-  c .before .before .before .before .before .before .before .plan-for .ensures .1,
+  c .finish .ensures .1,
+)
+
+loop-again : tie.Need-loop-again Inv-loop μ-loop
+unfolding blank noBinding
+loop-again c = gathering-again _ _ _ (c .before .before .before .before .before .before .before .loop .inv) (omega arith) (search needs) (search needs)
+
+check-requires-2 : tie.Need-check-requires-2 Inv-loop μ-loop
+check-requires-2 c κs = (c .before .before .before .before .before .before .before .before .loop .inv .few, (offsets-low _ _ _ (c .before .before .before .before .before .before .before .before .loop .inv) (omega arith), bits-low _ _ _ (c .before .before .before .before .before .before .before .before .loop .inv) (omega arith)))
+
+returns-2 : tie.Need-returns-2 Inv-loop μ-loop
+unfolding blank noBinding
+returns-2 c = (
+  (
+    c .finish2 .ensures .0 .0 _ _ _ (reached-here _ _ (c .before .before .before .before .before .before .before .before .before .before .before .before .before .before .before .before .before .before .before .before .before .before .before .describe .ensures .0) _ _ (c .before .before .before .before .before .before .before .before .before .before .before .before .before .before .before .find-target .ensures _ (taken _ _ (c .before .before .before .before .before .before .before .before .before .before .before .before .before .before .before .before .before .before .before .before .before .before .before .describe .ensures .0) (c .before .before .before .before .before .before .before .before .before .before .before .before .before .before .before .before .before .before .before .before .before .before .position-of .ensures) (c .before .before .before .before .before .before .before .before .before .before .before .before .before .before .before .before .before .before .before .before .before .place-of .ensures .1) (c .before .before .before .before .before .before .before .before .before .before .before .before .before .before .before .before .before .before .column-if .ensures) (c .before .before .before .before .before .before .before .before .before .before .before .before .before .before .before .before .before .binding-if .ensures))) (c .before .before .before .before .before .before .before .before .before .before .before .before .before .before .if1 .left) (c .before .before .before .before .check2 .ensures .0 _ _ (given _ _ (c .before .before .before .before .before .before .before .before .before .before .before .before .before .loop .inv) (c .before .before .before .before .before .before .before .before .before .before .before .before .loop-test .left)))),
+    λ z k. room-text _ _ _ (c .before .before .before .before .before .before .before .before .before .before .before .before .before .before .before .before .before .before .before .before .before .before .before .describe .ensures .0) (c .before .before .before .before .check2 .ensures .1 (c .finish2 .ensures .0 .1 z)),
+  ),
+  c .finish2 .ensures .1,
 )
 
 pub stages-spec : {M : Type 1} → statement M
 stages-spec =
     tie.close
     (tie.spec
-    free
-    (λ c κs. search needs)
-    free
-    (λ c κs. search needs)
-    free
-    free
-    free
-    free
+    Inv-loop
+    μ-loop
     free
     free
     free
     (λ c. search needs)
-    returns)
+    (λ c. search needs)
+    (λ c. search needs)
+    (λ c. search needs)
+    free
+    free
+    (λ c κs. search needs)
+    free
+    (λ c κs. search needs)
+    free
+    free
+    returns
+    (λ c. gathering-start _ _ _ _ (c .before .before .before .before .before .before .before .before .before .describe .ensures .1 .0))
+    (λ c. search needs)
+    (λ c. search needs)
+    (λ c. search needs)
+    (λ c. search needs)
+    (λ c. search needs)
+    (λ c. search needs)
+    (λ c. search needs)
+    (λ c. search needs)
+    (λ c. search needs)
+    (λ c. search needs)
+    (λ c. search needs)
+    (λ c. search needs)
+    (λ c. search needs)
+    (λ c. search needs)
+    (λ c. search needs)
+    (λ c. search needs)
+    (λ c. search needs)
+    loop-again
+    (λ c. search needs)
+    check-requires-2
+    free
+    (λ c. search needs)
+    returns-2)

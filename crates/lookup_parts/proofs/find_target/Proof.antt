@@ -1,26 +1,14 @@
--- `lookup_parts::find_target` meets its contract: its calls compose as the definition says.
+-- `lookup_parts::find_target` meets its contract.
 use borrow.Author.Needs.{needs}
-use mathlib.Core.Path.{refl}
-use Rattle.bytes_at.proofs.Stepped.{via, free}
-use Rattle.lookup_rules.specs.Questions.{targetOf}
+use Rattle.bytes_at.proofs.Stepped.{free}
+use Rattle.lookup_parts.proofs.Found.{target-is}
 use Rattle.lookup_parts.proofs.find_target.Statement.{statement}
 use Rattle.lookup_parts.proofs.find_target.Tie as tie
 
 returns : tie.Need-returns
-unfolding targetOf
-returns c =
-    via _ (c .before .before .before .before .before .before .before .before .before .before .before .before .before .before .before .before .position-of .ensures)
-    (via _ (c .before .before .before .before .before .before .before .before .before .before .before .before .before .before .before .is-column .ensures)
-    (via _ (c .before .before .before .before .before .before .before .before .before .before .before .before .before .before .stage .ensures)
-    (via _ (c .before .before .before .before .before .before .before .before .before .before .before .before .binding-at .ensures)
-    (via _ (c .before .before .before .before .before .before .before .before .before .before .sequence-of .ensures)
-    (via _ (c .before .before .before .before .before .before .before .before .kind-with .ensures)
-    (via _ (c .before .before .before .before .before .before .column-at .ensures)
-    (via _ (c .before .before .before .is-placed .ensures)
-    (via _ (c .before .before .is-held .ensures)
-    (via _ (c .before .stage2 .ensures)
-    (via _ (c .is-incremental .ensures)
-    refl))))))))))
+returns c d v =
+    target-is d _ v (c .before .before .before .before .before .before .before .before .before .before .before .position-of .ensures) (c .before .before .before .before .before .before .before .before .before .before .is-column .ensures) (c .before .before .before .before .before .before .before .before .before .stage .ensures) (c .before .before .before .before .before .before .before .sequence-of .ensures) (c .before .before .before .before .before .before .kind-with .ensures)
+    (c .before .before .before .is-placed .ensures) (c .before .before .is-held .ensures) (c .before .stage2 .ensures) (c .is-incremental .ensures)
 
 pub find-target-spec : {M : Type 1} → statement M
 find-target-spec =
@@ -29,11 +17,9 @@ find-target-spec =
     free
     free
     free
-    free
     (λ c. search needs)
     free
     (λ c κs. search needs)
-    free
     (λ c. search needs)
     free
     free

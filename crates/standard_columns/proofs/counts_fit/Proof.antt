@@ -7,16 +7,16 @@ use Rattle.standard_columns.proofs.counts_fit.Statement.{statement}
 use Rattle.standard_columns.proofs.counts_fit.Tie as tie
 
 abbrev Inv-loop : tie.InvT-loop
-Inv-loop counts m sets k₀ k = Comparing counts sets m k
+Inv-loop counts columns m k₀ k = Comparing counts columns m k
 
 abbrev μ-loop : tie.MeasureT-loop
-μ-loop counts m sets k₀ k = m - k
+μ-loop counts columns m k₀ k = m - k
 
 returns : tie.Need-returns Inv-loop μ-loop
-returns c = comparing-not (c .before .before .before .before .before .loop .inv) (omega arith) (omega arith) (c .if1 .taken)
+returns c = comparing-not (c .before .before .before .before .loop .inv) (omega arith) (omega arith) (c .if1 .taken)
 
 loop-again : tie.Need-loop-again Inv-loop μ-loop
-loop-again c = comparing-again (c .before .before .before .before .before .loop .inv) (omega arith) (omega arith) (c .if1 .left)
+loop-again c = comparing-again (c .before .before .before .before .loop .inv) (omega arith) (omega arith) (c .if1 .left)
 
 returns-2 : tie.Need-returns-2 Inv-loop μ-loop
 returns-2 c = comparing-end (c .before .loop .inv) (omega arith)

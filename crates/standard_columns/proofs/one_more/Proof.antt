@@ -6,11 +6,14 @@ use lib.Seq.{set-out}
 use Rattle.standard_columns.proofs.one_more.Statement.{statement}
 use Rattle.standard_columns.proofs.one_more.Tie as tie
 
+add-counts : tie.Need-add-counts
+add-counts c = omega (arith, c .before .before .before .pre .1 (c .before .before .before .args .k))
+
 returns : tie.Need-returns
-returns c = rw (c .before .if1 .taken)
+returns c = rw (c .before .before .if1 .taken)
 
 returns-2 : tie.Need-returns-2
-returns-2 c = rw (c .before .if1 .taken) (sym (set-out _ _ _ (omega arith)))
+returns-2 c = rw (c .before .if1 .taken) (sym (set-out _ _ _ (omega (arith, c .before .before .pre .0))))
 
 returns-3 : tie.Need-returns-3
 returns-3 c = rw (c .if1 .left)
@@ -20,7 +23,7 @@ one-more-spec =
     tie.close (tie.spec
     (λ c. search needs)
     (λ c. search needs)
-    (λ c. omega (arith, c .before .before .pre (c .before .before .args .k)))
+    add-counts
     (λ c. search needs)
     (λ c. search needs)
     returns

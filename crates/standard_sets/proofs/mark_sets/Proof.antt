@@ -4,34 +4,33 @@ use mathlib.Core.Path.{_≡_}
 use native.Mathlib.Omega.{arith}
 use borrow.Author.Needs.{needs}
 use borrow.Author.Tests.{not-true, not-false}
-use Rattle.cell_map.specs.Fits.{dataOf}
 use Rattle.marks.proofs.Marking.{Marking, marking-none, marking-end, part-more, part-stop}
-use Rattle.standard_rules.specs.Rules.{setsFrom}
+use Rattle.standard_sets.specs.Sets.{dataBy}
 use Rattle.standard_sets.proofs.Sets.{data-none, data-more}
 use Rattle.standard_sets.proofs.mark_sets.Statement.{statement}
 use Rattle.standard_sets.proofs.mark_sets.Tie as tie
 
 abbrev Inv-loop : tie.InvT-loop
-Inv-loop seen₀ nb text m sets left₀ k₀ seen left k =
-    (Marking nb seen₀ (dataOf (setsFrom text sets m 0)) seen (dataOf (setsFrom text sets left k))) × (k + left ≡ m)
+Inv-loop seen₀ nb text entries buckets m left₀ k₀ seen left k =
+    (Marking nb seen₀ (dataBy text entries buckets m 0) seen (dataBy text entries buckets left k)) × (k + left ≡ m)
 
 abbrev μ-loop : tie.MeasureT-loop
-μ-loop seen₀ nb text m sets left₀ k₀ seen left k = left
+μ-loop seen₀ nb text entries buckets m left₀ k₀ seen left k = left
 
 add-numbers-requires : tie.Need-add-numbers-requires Inv-loop μ-loop
-add-numbers-requires c κs = (omega arith, c .before .before .before .before .before .pre .2 (c .before .before .before .loop .k) (omega arith) .buckets-inside)
+add-numbers-requires c κs = (omega arith, c .before .before .before .before .before .before .pre .2 (c .before .before .before .before .loop .k) (omega arith))
 
 returns : tie.Need-returns Inv-loop μ-loop
-returns c = part-stop (c .before .before .before .before .before .loop .inv .0) _ _ (data-more _ _ _ _ (omega arith)) (c .before .add-numbers .ensures) (not-true _ (c .if1 .taken))
+returns c = part-stop (c .before .before .before .before .before .before .loop .inv .0) _ _ (data-more _ _ _ _ _ (omega arith)) (c .before .add-numbers .ensures) (not-true _ (c .if1 .taken))
 
 loop-again : tie.Need-loop-again Inv-loop μ-loop
 loop-again c = (
-  part-more (c .before .before .before .before .before .loop .inv .0) _ _ (data-more _ _ _ _ (omega arith)) (c .before .add-numbers .ensures) (not-false _ (c .if1 .left)),
+  part-more (c .before .before .before .before .before .before .loop .inv .0) _ _ (data-more _ _ _ _ _ (omega arith)) (c .before .add-numbers .ensures) (not-false _ (c .if1 .left)),
   omega arith,
 )
 
 returns-2 : tie.Need-returns-2 Inv-loop μ-loop
-returns-2 c = marking-end (c .before .loop .inv .0) (data-none _ _ _ _ (omega arith))
+returns-2 c = marking-end (c .before .loop .inv .0) (data-none _ _ _ _ _ (omega arith))
 
 pub mark-sets-spec : {M : Type 1} → statement M
 mark-sets-spec =
@@ -40,6 +39,8 @@ mark-sets-spec =
     Inv-loop
     μ-loop
     (λ c. (marking-none _ _ _, omega arith))
+    (λ c. search needs)
+    (λ c. search needs)
     (λ c. search needs)
     (λ c. search needs)
     add-numbers-requires

@@ -1,0 +1,33 @@
+-- The target of a question, from what it asks of a table. Assumes nothing.
+use mathlib.Core.Path.{_≡_}
+use mathlib.Core.Bool.{Bool}
+use mathlib.Core.List.{List}
+use Prim.Native.Nat.{ℕ}
+use Rattle.bytes_at.specs.Stages.{_▷_, orNo}
+use Rattle.bytes_at.specs.Steps.{_>>=_}
+use Rattle.column_desc.specs.declared.Column.{Column}
+use Rattle.column_set.specs.declared.Binding.{Binding}
+use Rattle.column_set.specs.declared.Manager.{Manager}
+use Rattle.column_set.specs.declared.Kind.{Kind}
+use Rattle.table.specs.declared.Description.{Description}
+use Rattle.lookup_rules.specs.declared.Question.{Question}
+use Rattle.lookup_rules.specs.declared.Target.{Target}
+use Rattle.lookup_rules.specs.Questions.{positionOf, sequenceOf, isColumn, kindWith, isIncremental, isPlaced, isHeld, targetOf}
+use Rattle.lookup_parts.specs.Taken.{Taken}
+
+pub target-is : (d : Description) (q : Question) {refused columns count : ℕ} {managers : List Manager} {c : Column} {b : Binding}
+    → Taken d q refused columns managers count c b
+    → {position r1 r2 sequence : ℕ} {column placed held incremental : Bool} {kind : Kind}
+    → position ≡ positionOf q
+    → column ≡ isColumn q columns
+    → r1 ≡ refused ▷ orNo column 8
+    → sequence ≡ sequenceOf q (b .sequence)
+    → kind ≡ kindWith managers count sequence
+    → placed ≡ isPlaced q (c .datatype .number)
+    → held ≡ isHeld kind placed
+    → r2 ≡ r1 ▷ orNo held 8
+    → incremental ≡ isIncremental kind
+    → _≡_ {A = Target} (record { refused = r2; position = position; sequence = sequence; incremental = incremental; column = c; binding = b }) (targetOf d q)
+unfolding targetOf _>>=_
+target-is d q v e1 e2 e3 e4 e5 e6 e7 e8 e9 =
+    rw (e9, e8, e7, e6, e5, e4, e3, e2, e1, v .refused-is, v .columns-are, v .managers-are, v .count-is, v .column-is, v .binding-is)

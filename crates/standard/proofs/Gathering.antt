@@ -1,0 +1,178 @@
+-- The loop that puts the numbers of the sets into lists, and the sets of a map by position. Assumes nothing.
+use mathlib.Core.Path.{_≡_, refl, sym, ap, _∙_}
+use mathlib.Core.Bool.{Bool, true, false, _&&_}
+use mathlib.Core.List.{List, [], _∷_, _++_, map}
+use Prim.Native.Nat.{ℕ, zero, suc, _+_, _*_, _≤_, _<_, zero-le}
+use native.Mathlib.Decide.{decLt}
+use native.Mathlib.Omega.{arith}
+use lib.Dec.{eqb}
+use lib.ListN.{length, getD, set, replicate, getD-replicate, length-replicate, List·getD-eq-default}
+use borrow.Author.Tests.{eq-eqb}
+use Rattle.cell_map.specs.Tests.{all, allFrom}
+use Rattle.cell_map.specs.Map.{Map, Column as MapColumn, Set as MapSet, setAt, noSet as noMapSet}
+use Rattle.cell_map.specs.Fits.{setFits, covers, countFits, dataOf, extentOf}
+use Rattle.row_index.specs.Numbers.{numbersAt}
+use Rattle.row_index.proofs.Numbers.{numbers-length}
+use Rattle.standard_text.specs.declared.Set.{Set}
+use Rattle.standard_text.specs.Index.{noSet, SetInside}
+use Rattle.standard_rules.specs.Rules.{setOf, setsFrom}
+use Rattle.standard_sets.specs.Sets.{rowsFit, dataBy}
+use Rattle.standard_columns.specs.Columns.{countsFit, extentBy, extentsBy}
+use Rattle.standard_columns.proofs.Listed.{listed, listed-length, listed-at, filled, filled-none, filled-more, filled-at, filled-past}
+use Rattle.standard_columns.proofs.Facts.{extents-same}
+
+-- ---- the sets of a map
+module _ (text : List ℕ) (sets : List Set) where
+  abbrev setIn : ℕ → MapSet
+  setIn k = setOf text (getD sets k noSet)
+
+  sets-listed : (n i : ℕ) → setsFrom text sets n i ≡ listed setIn n i
+  unfolding setsFrom listed
+  sets-listed zero i = refl
+  sets-listed (suc n) i = ap (λ l. setIn i ∷ l) (sets-listed n (suc i))
+
+  pub sets-length : (n i : ℕ) → length (setsFrom text sets n i) ≡ n
+  sets-length n i = rw (sets-listed n i) (listed-length setIn n i)
+
+  pub sets-at : (d : MapSet) (n k : ℕ) → k < n → getD (setsFrom text sets n 0) k d ≡ setOf text (getD sets k noSet)
+  sets-at d n k h = let e : k + 0 ≡ k = omega arith in rw (sets-listed n 0, listed-at setIn d n 0 k h, e)
+
+  -- both Blocks have as many elements as there are entries
+  set-fits : (rows k : ℕ) → setFits rows (setOf text (getD sets k noSet))
+      ≡ covers rows (getD sets k noSet .per) 0 (numbersAt true 4 text (getD sets k noSet .lasts) (getD sets k noSet .entries))
+  set-fits rows k =
+      let s = getD sets k noSet in
+      let e : eqb (length (numbersAt true 4 text (s .buckets) (s .entries))) (length (numbersAt true 4 text (s .lasts) (s .entries))) ≡ true
+      = eq-eqb _ _ (numbers-length true 4 text (s .buckets) (s .entries) ∙ sym (numbers-length true 4 text (s .lasts) (s .entries))) in
+      rw e (and-true _)
+    where
+      and-true : (b : Bool) → b && true ≡ b
+      and-true true = refl
+      and-true false = refl
+
+-- ---- a list that has one number of each of the sets below m
+abbrev Held : (Set → ℕ) → List Set → List ℕ → ℕ → Type 0
+Held p sets l m = (k : ℕ) → k < m → getD l k 0 ≡ p (getD sets k noSet)
+
+module _ (text : List ℕ) (sets : List Set) (entries : List ℕ) (m : ℕ) (held : Held (λ s. s .entries) sets entries m) where
+  rows-from : (rows : ℕ) (pers lasts : List ℕ) → Held (λ s. s .per) sets pers m → Held (λ s. s .lasts) sets lasts m
+      → (n k : ℕ) → k + n ≤ m → rowsFit rows text entries pers lasts n k ≡ all (setFits rows) (setsFrom text sets n k)
+  unfolding rowsFit setsFrom all
+  rows-from rows pers lasts p q zero k h = refl
+  rows-from rows pers lasts p q (suc n) k h =
+      rw (rows-from rows pers lasts p q n (suc k) (omega arith), set-fits text sets rows k, p k (omega arith), q k (omega arith), held k (omega arith))
+
+  data-from : (buckets : List ℕ) → Held (λ s. s .buckets) sets buckets m
+      → (n k : ℕ) → k + n ≤ m → dataBy text entries buckets n k ≡ dataOf (setsFrom text sets n k)
+  unfolding dataBy setsFrom dataOf
+  data-from buckets p zero k h = refl
+  data-from buckets p (suc n) k h = rw (data-from buckets p n (suc k) (omega arith), p k (omega arith), held k (omega arith))
+
+counts-from : (text : List ℕ) (sets : List Set) (l : List MapColumn) (columns : List ℕ) (m : ℕ) → Held (λ s. s .columns) sets columns m
+    → (n k : ℕ) → k + n ≤ m → countsFit l columns n k ≡ allFrom (countFits l) k (setsFrom text sets n k)
+unfolding countsFit setsFrom allFrom
+counts-from text sets l columns m p zero k h = refl
+counts-from text sets l columns m p (suc n) k h = rw (counts-from text sets l columns m p n (suc k) (omega arith), p k (omega arith))
+
+-- ---- the loop: the numbers of the first i of m sets are taken
+abbrev taken : (Set → ℕ) → List Set → ℕ → List ℕ
+taken p sets i = filled (λ k. p (getD sets k noSet)) (replicate 16 0) i
+
+pub record Gathering (sets : List Set) (m : ℕ) (entries pers columns lasts buckets : List ℕ) (i : ℕ) : Type 0 where
+  pub within : i ≤ m
+  pub entries-are : entries ≡ taken (λ s. s .entries) sets i
+  pub pers-are : pers ≡ taken (λ s. s .per) sets i
+  pub columns-are : columns ≡ taken (λ s. s .columns) sets i
+  pub lasts-are : lasts ≡ taken (λ s. s .lasts) sets i
+  pub buckets-are : buckets ≡ taken (λ s. s .buckets) sets i
+
+pub gathering-start : (sets : List Set) (m : ℕ) → Gathering sets m (replicate 16 0) (replicate 16 0) (replicate 16 0) (replicate 16 0) (replicate 16 0) 0
+gathering-start sets m = record {
+  within = zero-le;
+  entries-are = filled-none _ _;
+  pers-are = filled-none _ _;
+  columns-are = filled-none _ _;
+  lasts-are = filled-none _ _;
+  buckets-are = filled-none _ _;
+}
+
+taken-at : (p : Set → ℕ) (sets : List Set) (m : ℕ) {l : List ℕ} → m ≤ 16 → l ≡ taken p sets m → Held p sets l m
+taken-at p sets m h e k g = rw e (filled-at (λ k. p (getD sets k noSet)) (replicate 16 0) 0 m k h g)
+
+zeros-at : (k : ℕ) → _≡_ {A = ℕ} (getD (replicate 16 0) k 0) 0
+zeros-at k = elim (decLt k 16) [
+  | yes l ↦ getD-replicate 16 k 0 0 l
+  | no l ↦ List·getD-eq-default (replicate 16 0) 0 {n = k} (omega (arith, length-replicate {A = ℕ} 16 0))
+]
+
+taken-past : (p : Set → ℕ) (sets : List Set) (m : ℕ) {l : List ℕ} → l ≡ taken p sets m → (k : ℕ) → m ≤ k → getD l k 0 ≡ 0
+taken-past p sets m e k g = rw e (filled-past (λ k. p (getD sets k noSet)) (replicate 16 0) 0 m k g ∙ zeros-at k)
+
+module _ {sets : List Set} {m : ℕ} {entries pers columns lasts buckets : List ℕ} {i : ℕ} (v : Gathering sets m entries pers columns lasts buckets i) where
+  pub gathering-again : i < m
+      → Gathering sets m (set entries i (getD sets i noSet .entries)) (set pers i (getD sets i noSet .per)) (set columns i (getD sets i noSet .columns)) (set lasts i (getD sets i noSet .lasts)) (set buckets i (getD sets i noSet .buckets)) (i + 1)
+  gathering-again h = record {
+    within = omega arith;
+    entries-are = filled-more _ _ i (v .entries-are) refl;
+    pers-are = filled-more _ _ i (v .pers-are) refl;
+    columns-are = filled-more _ _ i (v .columns-are) refl;
+    lasts-are = filled-more _ _ i (v .lasts-are) refl;
+    buckets-are = filled-more _ _ i (v .buckets-are) refl;
+  }
+
+  module _ (h : m ≤ i) (few : m ≤ 16) where
+    all-in : i ≡ m
+    all-in = omega (arith, v .within)
+
+    entries-held : Held (λ s. s .entries) sets entries m
+    entries-held = taken-at (λ s. s .entries) sets m few (v .entries-are ∙ ap (taken (λ s. s .entries) sets) all-in)
+
+    pers-taken : pers ≡ taken (λ s. s .per) sets m
+    pers-taken = v .pers-are ∙ ap (taken (λ s. s .per) sets) all-in
+
+    pers-held : Held (λ s. s .per) sets pers m
+    pers-held = taken-at (λ s. s .per) sets m few pers-taken
+
+    columns-held : Held (λ s. s .columns) sets columns m
+    columns-held = taken-at (λ s. s .columns) sets m few (v .columns-are ∙ ap (taken (λ s. s .columns) sets) all-in)
+
+    lasts-held : Held (λ s. s .lasts) sets lasts m
+    lasts-held = taken-at (λ s. s .lasts) sets m few (v .lasts-are ∙ ap (taken (λ s. s .lasts) sets) all-in)
+
+    buckets-held : Held (λ s. s .buckets) sets buckets m
+    buckets-held = taken-at (λ s. s .buckets) sets m few (v .buckets-are ∙ ap (taken (λ s. s .buckets) sets) all-in)
+
+    -- the lists of each set lie in a text of n bytes
+    module _ (n : ℕ) (inside : (k : ℕ) → k < m → SetInside n 4 (getD sets k noSet)) where
+      pub lasts-inside : (k : ℕ) → k < m → getD lasts k 0 + getD entries k 0 * 4 ≤ n
+      lasts-inside k g = rw (lasts-held k g, entries-held k g) (inside k g .lasts-inside)
+
+      pub buckets-inside : (k : ℕ) → k < m → getD buckets k 0 + getD entries k 0 * 4 ≤ n
+      buckets-inside k g = rw (buckets-held k g, entries-held k g) (inside k g .buckets-inside)
+
+      pub pers-inside : (k : ℕ) → getD pers k 0 ≤ 8388608
+      pers-inside k = elim (decLt k m) [
+        | yes l ↦ rw (pers-held k l) (inside k l .per-most)
+        | no l ↦ rw (taken-past (λ s. s .per) sets m pers-taken k (omega arith)) zero-le
+      ]
+
+    module _ (text : List ℕ) where
+      per-at : (k : ℕ) → getD pers k 0 ≡ getD (setsFrom text sets m 0) k noMapSet .rowsPer
+      per-at k = elim (decLt k m) [
+        | yes l ↦ pers-held k l ∙ sym (ap (λ (s : MapSet). s .rowsPer) (sets-at text sets noMapSet m k l))
+        | no l ↦
+            taken-past (λ s. s .per) sets m pers-taken k (omega arith)
+            ∙ sym (ap (λ (s : MapSet). s .rowsPer) (List·getD-eq-default (setsFrom text sets m 0) noMapSet {n = k} (omega (arith, sets-length text sets m 0))))
+      ]
+
+      pub extents-in : (M : Map) → M .sets ≡ setsFrom text sets m 0 → (l : List MapColumn) → extentsBy pers l ≡ map (extentOf M) l
+      extents-in M e l = extents-same (λ k. getD pers k 0) (λ k. setAt M k .rowsPer) (λ k. per-at k ∙ sym (ap (λ s. getD s k noMapSet .rowsPer) e)) l
+
+      pub rows-in : (rows : ℕ) → rowsFit rows text entries pers lasts m 0 ≡ all (setFits rows) (setsFrom text sets m 0)
+      rows-in rows = rows-from text sets entries m entries-held rows pers lasts pers-held lasts-held m 0 (omega arith)
+
+      pub data-in : dataBy text entries buckets m 0 ≡ dataOf (setsFrom text sets m 0)
+      data-in = data-from text sets entries m entries-held buckets buckets-held m 0 (omega arith)
+
+      pub counts-in : (l : List MapColumn) → countsFit l columns m 0 ≡ allFrom (countFits l) 0 (setsFrom text sets m 0)
+      counts-in l = counts-from text sets l columns m columns-held m 0 (omega arith)
