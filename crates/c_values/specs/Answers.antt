@@ -8,10 +8,11 @@ use lib.Dec.{eqb, ltb}
 use Rattle.column_desc.specs.declared.Column.{Column}
 use Rattle.column_desc.specs.ColumnDesc.{blank}
 use Rattle.column_set.specs.declared.Binding.{Binding}
-use Rattle.column_set.specs.declared.Manager.{Manager}
-use Rattle.column_set.specs.declared.Kind.{Kind}
-use Rattle.column_set.specs.declared.Kind.the-variants.{Other, Standard, Incremental}
-use Rattle.column_set.specs.ColumnSet.{noBinding, noManager}
+use Rattle.data_managers.specs.declared.Manager.{Manager}
+use Rattle.data_managers.specs.declared.Kind.{Kind}
+use Rattle.data_managers.specs.declared.Kind.the-variants.{Other, Standard, Incremental}
+use Rattle.data_managers.specs.DataManagers.{noManager}
+use Rattle.column_set.specs.ColumnSet.{noBinding}
 use Rattle.table.specs.declared.Description.{Description}
 use Rattle.table.specs.declared.Position.{Position}
 use Rattle.table.specs.declared.Position.the-variants.{At, Refused}

@@ -17,8 +17,8 @@ ghost use Rattle.c_values.specs.Answers.{
 };
 use column_desc::Column;
 use column_set::Binding;
-use column_set::Kind;
-use column_set::Manager;
+use data_managers::Kind;
+use data_managers::Manager;
 use lookup_rules::Plan;
 use table::Position;
 
@@ -90,7 +90,7 @@ pub fn pick_manager(managers: [Manager; 16], count: usize, position: u64) -> Man
         let one = managers[at];
         return one;
     }
-    column_set::no_manager()
+    data_managers::no_manager()
 }
 
 // Writes the values into `out` and gives the number; 255, and nothing is written, where `out` is too short for them.

@@ -1,34 +1,23 @@
--- Of the managers' count, and of a refused cursor, which stays as it is.
+-- A refused cursor stays as it is.
 -- Assumes nothing.
 use mathlib.Core.List.{List}
 use mathlib.Core.Bool.{Bool, true, false, cond}
-use Prim.Native.Nat.{ℕ, _≤_}
+use Prim.Native.Nat.{ℕ}
 use lib.Dec.{eqb}
 use Rattle.bytes_at.specs.Steps.{_>>=_}
 use Rattle.aipsio.specs.declared.Cursor.{Cursor}
 use Rattle.aipsio.specs.Field.{flagAt}
 use Rattle.aipsio.proofs.Kept.{Keeps, keeps-same, after-keeps, judged-keeps, uint-reads, ranged-reads, any-string-reads, string-reads, _⨟_}
 use Rattle.aipsio_objects.proofs.Kept.{iposition-keeps}
-use Rattle.aipsio.proofs.Bounds.{ranged-le}
-use Rattle.column_set.specs.declared.Managers.{Managers}
 use Rattle.column_set.specs.declared.Owners.{Owners}
 use Rattle.column_set.specs.declared.Infos.{Infos}
-use Rattle.column_set.specs.ColumnSet.{headAt, managerInto, managersAt, sequenceAt, ownShapeAt, ownerInto, ownersAt, infoInto, infosAt}
+use Rattle.column_set.specs.ColumnSet.{sequenceAt, ownShapeAt, ownerInto, ownersAt, infoInto, infosAt}
 
 cond-keeps : (b : Bool) {c d e : Cursor} → Keeps c d → Keeps c e → Keeps c (cond b d e)
 cond-keeps true k l = k
 cond-keeps false k l = l
 
 module _ (s : List ℕ) (c : Cursor) where
-  pub managers-le : (rows : ℕ) → headAt s c rows .count ≤ 16
-  unfolding headAt _>>=_
-  managers-le rows = ranged-le s _ 4 1 16 3
-
-  pub head-keeps : (rows : ℕ) → Keeps c (headAt s c rows .next)
-  unfolding headAt _>>=_
-  head-keeps rows =
-      ranged-reads s c 4 4294967294 4294967294 3 .keeps ⨟ ranged-reads s _ 4 0 2147483647 4 .keeps ⨟ judged-keeps _ _ _ 6 ⨟ uint-reads s _ .keeps ⨟ ranged-reads s _ 4 1 16 4 .keeps
-
   pub sequence-keeps : Keeps c (sequenceAt s c .next)
   unfolding sequenceAt _>>=_
   sequence-keeps =
@@ -41,10 +30,6 @@ module _ (s : List ℕ) (c : Cursor) where
 
 -- a turn of each loop
 module _ (s : List ℕ) where
-  manager-keeps : (highest : ℕ) (ms : Managers) (i : ℕ) → Keeps (ms .next) (managerInto s highest ms i .next)
-  unfolding managerInto _>>=_
-  manager-keeps highest ms i = string-reads s _ 0 4096 .keeps ⨟ uint-reads s _ .keeps ⨟ judged-keeps _ _ _ 6
-
   owner-keeps : (arrays : List Bool) (numbers : List ℕ) (m : ℕ) (os : Owners) (i : ℕ) → Keeps (os .next) (ownerInto s arrays numbers m os i .next)
   unfolding ownerInto _>>=_
   owner-keeps arrays numbers m os i = sequence-keeps s _ ⨟ judged-keeps _ _ _ 6 ⨟ own-shape-keeps s _ _
@@ -54,10 +39,6 @@ module _ (s : List ℕ) where
   info-keeps ours counts is j = any-string-reads s _ .keeps ⨟ judged-keeps _ _ _ 7
 
 module _ (s : List ℕ) (c : Cursor) where
-  pub managers-keeps : (n highest : ℕ) → Keeps c (managersAt s c n highest .next)
-  unfolding managersAt
-  managers-keeps n highest = after-keeps _ (λ (ms : Managers). ms .next) (manager-keeps s highest) _ n
-
   pub owners-keeps : (arrays : List Bool) (n : ℕ) (numbers : List ℕ) (m : ℕ) → Keeps c (ownersAt s c arrays n numbers m .next)
   unfolding ownersAt
   owners-keeps arrays n numbers m = after-keeps _ (λ (os : Owners). os .next) (owner-keeps s arrays numbers m) _ n

@@ -7,8 +7,8 @@ use Rattle.bytes_at.specs.Stages.{_▷_, orNo}
 use Rattle.bytes_at.specs.Steps.{_>>=_}
 use Rattle.column_desc.specs.declared.Column.{Column}
 use Rattle.column_set.specs.declared.Binding.{Binding}
-use Rattle.column_set.specs.declared.Manager.{Manager}
-use Rattle.column_set.specs.declared.Kind.{Kind}
+use Rattle.data_managers.specs.declared.Manager.{Manager}
+use Rattle.data_managers.specs.declared.Kind.{Kind}
 use Rattle.table.specs.declared.Description.{Description}
 use Rattle.lookup_rules.specs.declared.Question.{Question}
 use Rattle.lookup_rules.specs.declared.Target.{Target}

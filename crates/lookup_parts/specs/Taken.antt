@@ -6,7 +6,7 @@ use lib.ListN.{getD}
 use Rattle.column_desc.specs.declared.Column.{Column}
 use Rattle.column_desc.specs.ColumnDesc.{blank}
 use Rattle.column_set.specs.declared.Binding.{Binding}
-use Rattle.column_set.specs.declared.Manager.{Manager}
+use Rattle.data_managers.specs.declared.Manager.{Manager}
 use Rattle.table.specs.declared.Description.{Description}
 use Rattle.lookup_rules.specs.declared.Question.{Question}
 use Rattle.lookup_rules.specs.Questions.{positionOf, bindingAt}

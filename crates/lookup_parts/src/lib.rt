@@ -8,7 +8,8 @@ ghost use lib.ListN.{getD};
 ghost use Rattle.bytes_at.specs.First.{firstBelow};
 ghost use Rattle.bytes_at.specs.Stages.{_▷_, orNo};
 ghost use Rattle.column_desc.specs.ColumnDesc.{blank};
-ghost use Rattle.column_set.specs.ColumnSet.{noManager, noBinding};
+ghost use Rattle.data_managers.specs.DataManagers.{noManager};
+ghost use Rattle.column_set.specs.ColumnSet.{noBinding};
 ghost use Rattle.table.specs.declared.Description.{Description};
 ghost use Rattle.lookup_rules.specs.Questions.{
   rowOf,
@@ -33,8 +34,8 @@ ghost use Rattle.lookup_rules.specs.Questions.{
 ghost use Rattle.lookup_parts.specs.Taken.{Taken};
 use column_desc::Column;
 use column_set::Binding;
-use column_set::Kind;
-use column_set::Manager;
+use data_managers::Kind;
+use data_managers::Manager;
 use lookup_rules::FileChecked;
 use lookup_rules::Plan;
 use lookup_rules::Question;
@@ -160,7 +161,7 @@ pub fn manager_at(managers: [Manager; 16], i: usize) -> Manager
     if i < 16 {
         return managers[i];
     }
-    column_set::no_manager()
+    data_managers::no_manager()
 }
 
 // The first of the managers with the sequence number, or their number.

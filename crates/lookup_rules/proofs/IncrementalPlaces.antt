@@ -6,8 +6,8 @@ use mathlib.Core.Bool.{true}
 use Prim.Native.Nat.{ℕ}
 use lib.Dec.{T}
 use borrow.Author.Tests.{eq-eqb}
-use Rattle.column_set.specs.declared.Kind.{Kind}
-use Rattle.column_set.specs.declared.Kind.the-variants.{Incremental}
+use Rattle.data_managers.specs.declared.Kind.{Kind}
+use Rattle.data_managers.specs.declared.Kind.the-variants.{Incremental}
 use Rattle.table.specs.declared.Description.{Description}
 use Rattle.table.specs.Table.{describedAs}
 use Rattle.cell_map.proofs.Tests.{is-true}

@@ -23,10 +23,11 @@ use Rattle.aipsio.proofs.Kept.{text-next}
 use Rattle.column_desc.specs.declared.Head.{Head}
 use Rattle.column_desc.specs.declared.Columns.{Columns}
 use Rattle.column_desc.specs.ColumnDesc.{typeAt, headAt, notesAt, optionsAt, dimensionsAt, elementsAt, layoutAt, defaultAt, tailAt, columnAt, columnInto, columnsAt}
-use Rattle.column_set.specs.declared.Managers.{Managers}
+use Rattle.data_managers.specs.declared.Managers.{Managers}
 use Rattle.column_set.specs.declared.Owners.{Owners}
 use Rattle.column_set.specs.declared.Infos.{Infos}
-use Rattle.column_set.specs.ColumnSet.{headAt as setHeadAt, managerInto, managersAt, sequenceAt, ownShapeAt, ownerInto, ownersAt, infoInto, infosAt}
+use Rattle.data_managers.specs.DataManagers.{headAt as setHeadAt, managerInto, managersAt}
+use Rattle.column_set.specs.ColumnSet.{sequenceAt, ownShapeAt, ownerInto, ownersAt, infoInto, infosAt}
 use Rattle.table.specs.Table.{wholeOf, headAt as tableHeadAt, descHeadAt, refusedWith, describedAs}
 use Rattle.standard_text.specs.declared.BucketFields.{BucketFields}
 use Rattle.standard_text.specs.declared.IndexFields.{IndexFields}

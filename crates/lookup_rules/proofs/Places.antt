@@ -6,7 +6,7 @@ use mathlib.Core.Bool.{false}
 use Prim.Native.Nat.{ℕ, _<_}
 use lib.Dec.{T}
 use Rattle.bytes_at.proofs.Stages.{then-left, then-right, or-passed}
-use Rattle.column_set.specs.declared.Kind.{Kind}
+use Rattle.data_managers.specs.declared.Kind.{Kind}
 use Rattle.table.specs.declared.Description.{Description}
 use Rattle.table.specs.Table.{describedAs}
 use Rattle.cell_map.specs.Map.{Bits, placeOf}

@@ -13,8 +13,8 @@ use Rattle.bytes_at.specs.Steps.{_>>=_}
 use Rattle.bytes_at.proofs.Stages.{then-left, then-right, or-passed}
 use Rattle.column_desc.specs.declared.Column.{Column}
 use Rattle.column_desc.specs.ColumnDesc.{blank}
-use Rattle.column_set.specs.declared.Kind.{Kind}
-use Rattle.column_set.specs.declared.Kind.the-variants.{Other, Standard, Incremental}
+use Rattle.data_managers.specs.declared.Kind.{Kind}
+use Rattle.data_managers.specs.declared.Kind.the-variants.{Other, Standard, Incremental}
 use Rattle.table.specs.declared.Description.{Description}
 use Rattle.table.specs.Table.{describedAs}
 use Rattle.cell_map.specs.Map.{Map, Bits, columnAt, placeOf, bucketIn, bucketStart, localRow}

@@ -2,7 +2,7 @@
 use Prim.Native.Nat.{ℕ}
 use mathlib.Core.Path.{_≡_}
 use mathlib.Core.List.{List}
-use Rattle.column_set.specs.declared.Kind.the-variants.{Standard, Incremental}
+use Rattle.data_managers.specs.declared.Kind.the-variants.{Standard, Incremental}
 use Rattle.table.specs.Table.{describedAs}
 use Rattle.cell_map.specs.Map.{Bits}
 use Rattle.cell_map.specs.Demand.{Demand3}

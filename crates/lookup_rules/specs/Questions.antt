@@ -8,11 +8,12 @@ use Rattle.bytes_at.specs.First.{firstBelow}
 use Rattle.bytes_at.specs.Stages.{_▷_, orNo}
 use Rattle.bytes_at.specs.Steps.{_>>=_}
 use Rattle.column_desc.specs.ColumnDesc.{blank}
-use Rattle.column_set.specs.declared.Kind.{Kind}
-use Rattle.column_set.specs.declared.Kind.the-variants.{Other, Standard, Incremental}
-use Rattle.column_set.specs.declared.Manager.{Manager}
+use Rattle.data_managers.specs.declared.Kind.{Kind}
+use Rattle.data_managers.specs.declared.Kind.the-variants.{Other, Standard, Incremental}
+use Rattle.data_managers.specs.declared.Manager.{Manager}
 use Rattle.column_set.specs.declared.Binding.{Binding}
-use Rattle.column_set.specs.ColumnSet.{noManager, noBinding}
+use Rattle.data_managers.specs.DataManagers.{noManager}
+use Rattle.column_set.specs.ColumnSet.{noBinding}
 use Rattle.table.specs.declared.Description.{Description}
 use Rattle.table.specs.Table.{describedAs}
 use Rattle.buckets.specs.Chain.{padded}

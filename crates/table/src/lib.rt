@@ -6,7 +6,7 @@ use aipsio::Cursor;
 use bytes_at::Width;
 use column_desc::Column;
 use column_set::Binding;
-use column_set::Manager;
+use data_managers::Manager;
 
 // What table.dat says; zeros where it is refused. The columns stand in stored order, each with its binding.
 pub struct Description {
@@ -77,7 +77,7 @@ fn refuse(number: usize) -> Description
 {
     let column = column_desc::no_column();
     let binding = column_set::no_binding();
-    let manager = column_set::no_manager();
+    let manager = data_managers::no_manager();
     Description {
         refused: number,
         rows: 0,
@@ -119,8 +119,8 @@ pub fn describe(s: &[u8]) -> Description
     let n = read_desc_head(s, o.next);
     let cs = column_desc::read_columns(s, n.next, n.count);
     let e = aipsio_objects::close(cs.next, head.next);
-    let set = column_set::read_head(s, e, head.rows);
-    let ms = column_set::read_managers(s, set.next, set.count, set.highest);
+    let set = data_managers::read_head(s, e, head.rows);
+    let ms = data_managers::read_managers(s, set.next, set.count, set.highest);
     let numbers = ms.numbers;
     let ours = ms.ours;
     let arrays = cs.arrays;

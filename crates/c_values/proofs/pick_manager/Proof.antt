@@ -2,7 +2,7 @@
 use borrow.Author.Needs.{needs}
 use borrow.Author.Tests.{lt-ltb, le-ltb}
 use Rattle.bytes_at.proofs.Stepped.{free}
-use Rattle.column_set.specs.ColumnSet.{noManager}
+use Rattle.data_managers.specs.DataManagers.{noManager}
 use Rattle.c_values.specs.Answers.{pickedManager}
 use Rattle.c_values.proofs.pick_manager.Statement.{statement}
 use Rattle.c_values.proofs.pick_manager.Tie as tie

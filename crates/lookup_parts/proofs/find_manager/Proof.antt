@@ -6,7 +6,7 @@ use borrow.Author.Tests.{eq-eqb, ne-eqb}
 use lib.Dec.{eqb}
 use lib.ListN.{getD}
 use Rattle.bytes_at.proofs.Searched.{Searched, searched-none, searched-on, searched-here, searched-out}
-use Rattle.column_set.specs.ColumnSet.{noManager}
+use Rattle.data_managers.specs.DataManagers.{noManager}
 use Rattle.lookup_parts.proofs.find_manager.Statement.{statement}
 use Rattle.lookup_parts.proofs.find_manager.Tie as tie
 

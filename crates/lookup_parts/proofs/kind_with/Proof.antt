@@ -1,7 +1,7 @@
 -- `lookup_parts::kind_with` meets its contract.
 use borrow.Author.Needs.{needs}
 use mathlib.Core.Path.{ap}
-use Rattle.column_set.specs.declared.Manager.{Manager}
+use Rattle.data_managers.specs.declared.Manager.{Manager}
 use Rattle.lookup_rules.specs.Questions.{kindWith}
 use Rattle.lookup_parts.proofs.kind_with.Statement.{statement}
 use Rattle.lookup_parts.proofs.kind_with.Tie as tie

@@ -1,6 +1,6 @@
 -- `lookup_parts::manager_at` meets its contract.
 use borrow.Author.Needs.{needs}
-use Rattle.column_set.specs.ColumnSet.{noManager}
+use Rattle.data_managers.specs.DataManagers.{noManager}
 use Rattle.lookup_parts.proofs.Past.{past}
 use Rattle.lookup_parts.proofs.manager_at.Statement.{statement}
 use Rattle.lookup_parts.proofs.manager_at.Tie as tie

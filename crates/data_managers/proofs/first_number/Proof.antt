@@ -1,4 +1,4 @@
--- `column_set::first_number` meets its contract. The loop's invariant: none of the first i numbers is the number given.
+-- `data_managers::first_number` meets its contract. The loop's invariant: none of the first i numbers is the number given.
 use Prim.Native.Nat.{ℕ, _-_}
 use native.Mathlib.Omega.{arith}
 use borrow.Author.Needs.{needs}
@@ -6,9 +6,9 @@ use borrow.Author.Tests.{eq-eqb, ne-eqb}
 use lib.ListN.{getD}
 use lib.Dec.{eqb}
 use Rattle.bytes_at.proofs.Searched.{Searched, searched-none, searched-on, searched-here, searched-out}
-use Rattle.column_set.specs.ColumnSet.{firstNumber}
-use Rattle.column_set.proofs.first_number.Statement.{statement}
-use Rattle.column_set.proofs.first_number.Tie as tie
+use Rattle.data_managers.specs.DataManagers.{firstNumber}
+use Rattle.data_managers.proofs.first_number.Statement.{statement}
+use Rattle.data_managers.proofs.first_number.Tie as tie
 
 abbrev Inv-loop : tie.InvT-loop
 Inv-loop numbers n number i₀ i = Searched (λ (k : ℕ). eqb (getD numbers k 0) number) n i

@@ -1,14 +1,14 @@
--- `column_set::read_managers` meets its contract. The loop's invariant: after i turns the state is the definition's after i turns.
+-- `data_managers::read_managers` meets its contract. The loop's invariant: after i turns the state is the definition's after i turns.
 use mathlib.Core.Path.{_≡_, refl}
 use Prim.Native.Nat.{_≤_, _-_}
 use native.Mathlib.Omega.{arith}
 use Rattle.bytes_at.specs.Loop.{after}
 use Rattle.bytes_at.proofs.Loops.{after-none, after-more, after-all}
 use Rattle.bytes_at.proofs.Stepped.{via, free}
-use Rattle.column_set.specs.declared.Managers.{Managers}
-use Rattle.column_set.specs.ColumnSet.{managerInto, managersAt}
-use Rattle.column_set.proofs.read_managers.Statement.{statement}
-use Rattle.column_set.proofs.read_managers.Tie as tie
+use Rattle.data_managers.specs.declared.Managers.{Managers}
+use Rattle.data_managers.specs.DataManagers.{managerInto, managersAt}
+use Rattle.data_managers.proofs.read_managers.Statement.{statement}
+use Rattle.data_managers.proofs.read_managers.Tie as tie
 
 abbrev Inv-loop : tie.InvT-loop
 Inv-loop s n highest managers₀ numbers₀ ours₀ next₀ i₀ managers numbers ours next i =

@@ -1,10 +1,10 @@
--- `column_set::kind_of` meets its contract: the name is compared as the definition says.
+-- `data_managers::kind_of` meets its contract: the name is compared as the definition says.
 use mathlib.Core.Path.{sym, _∙_}
 use lib.Seq.{take-length}
 use borrow.Author.Needs.{needs}
-use Rattle.column_set.specs.ColumnSet.{kindOf}
-use Rattle.column_set.proofs.kind_of.Statement.{statement}
-use Rattle.column_set.proofs.kind_of.Tie as tie
+use Rattle.data_managers.specs.DataManagers.{kindOf}
+use Rattle.data_managers.proofs.kind_of.Statement.{statement}
+use Rattle.data_managers.proofs.kind_of.Tie as tie
 
 returns : tie.Need-returns
 unfolding kindOf

@@ -1,9 +1,9 @@
--- `column_set::read_head` meets its contract: its calls compose as the definition says, and more than 16 managers are refused.
+-- `data_managers::read_head` meets its contract: its calls compose as the definition says, and more than 16 managers are refused.
 use mathlib.Core.Path.{refl}
 use Rattle.bytes_at.proofs.Stepped.{via, free}
-use Rattle.column_set.specs.ColumnSet.{headAt}
-use Rattle.column_set.proofs.read_head.Statement.{statement}
-use Rattle.column_set.proofs.read_head.Tie as tie
+use Rattle.data_managers.specs.DataManagers.{headAt}
+use Rattle.data_managers.proofs.read_head.Statement.{statement}
+use Rattle.data_managers.proofs.read_head.Tie as tie
 
 returns : tie.Need-returns
 unfolding headAt

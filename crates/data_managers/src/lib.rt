@@ -1,0 +1,179 @@
+// The beginning of ColumnSet and the data managers of a table (document 01, "table.dat"; Note 260, 3.1.2: ColumnSet).
+ghost use mathlib.Core.Path.{_≡_};
+ghost use Prim.Native.Nat.{_≤_};
+ghost use Rattle.data_managers.specs.DataManagers.{
+  kindOf,
+  isOurs,
+  headAt,
+  firstNumber,
+  isNew,
+  noManager,
+  managersAt,
+};
+use aipsio::Cursor;
+use bytes_at::Width;
+
+// A manager's kind is its exact name.
+pub enum Kind {
+    Other,
+    Standard,
+    Incremental,
+}
+
+// A data manager: its name as a part of table.dat, its sequence number and its kind, and whether that is one of the two
+// kinds whose files are read.
+pub struct Manager {
+    pub start: usize,
+    pub number: u32,
+    pub len: u16,
+    pub kind: Kind,
+    pub ours: bool,
+}
+
+// The highest sequence number and the number of managers, and the cursor past them.
+pub struct Head {
+    pub highest: usize,
+    pub count: usize,
+    pub next: Cursor,
+}
+
+// Managers in stored order, their sequence numbers, which of them are of the two kinds, and the cursor past them.
+pub struct Managers {
+    pub managers: [Manager; 16],
+    pub next: Cursor,
+    pub numbers: [usize; 16],
+    pub ours: [bool; 16],
+}
+
+pub fn kind_of(name: &[u8]) -> Kind
+    ensures { λ r. ⌜ r ≡ kindOf (now (name .entry)) ⌝ }
+{
+    // StandardStMan
+    if bytes_at::is_long_text(
+        name,
+        0,
+        name.len(),
+        13,
+        0x5374616e64617264,
+        0x61726453744d616e,
+    ) {
+        return Kind::Standard;
+    }
+    // IncrementalStMan
+    if bytes_at::is_long_text(
+        name,
+        0,
+        name.len(),
+        16,
+        0x496e6372656d656e,
+        0x74616c53744d616e,
+    ) {
+        return Kind::Incremental;
+    }
+    Kind::Other
+}
+
+fn is_ours(kind: Kind) -> bool
+    ensures { λ r. ⌜ r ≡ isOurs kind ⌝ }
+{
+    match kind {
+        Kind::Other => false,
+        Kind::Standard => true,
+        Kind::Incremental => true,
+    }
+}
+
+// Version -2, the row count, which is the table's (else 6), the highest sequence number, and the number of managers.
+pub fn read_head(s: &[u8], c: Cursor, rows: usize) -> Head
+    ensures { λ r. ⌜ r ≡ headAt (now (s .entry)) c rows ⌝ }
+    ensures bounded { λ r. ⌜ r .count ≤ 16 ⌝ }
+{
+    let v = aipsio::version(s, c, 4294967294, 4294967294);
+    let r = aipsio::number(s, v.next, Width::Four, 0, 2147483647);
+    let k = aipsio::judge(r.next, v.next.at, r.value == rows, 6);
+    let highest = aipsio::uint(s, k);
+    let n = aipsio::number(s, highest.next, Width::Four, 1, 16);
+    let next = n.next;
+    Head {
+        highest: highest.value,
+        count: n.value,
+        next: next,
+    }
+}
+
+// The first of n numbers that is the number given, or n.
+pub fn first_number(numbers: &[usize; 16], n: usize, number: usize) -> usize
+    requires { ⌜ n ≤ 16 ⌝ }
+    ensures { λ r. ⌜ r ≡ firstNumber (now (numbers .entry)) n number ⌝ }
+    ensures bounded { λ r. ⌜ r ≤ n ⌝ }
+{
+    let mut i = 0;
+    while i < n {
+        if numbers[i] == number {
+            return i;
+        }
+        i += 1;
+    }
+    i
+}
+
+// Whether a manager's number is its own, and not above the highest.
+fn is_new(first: usize, i: usize, number: usize, highest: usize) -> bool
+    ensures { λ r. ⌜ r ≡ isNew first i number highest ⌝ }
+{
+    if first == i {
+        return number <= highest;
+    }
+    false
+}
+
+pub fn no_manager() -> Manager
+    ensures { λ r. ⌜ r ≡ noManager ⌝ }
+{
+    Manager {
+        start: 0,
+        number: 0,
+        len: 0,
+        kind: Kind::Other,
+        ours: false,
+    }
+}
+
+// n managers. A sequence number that an earlier manager has, or above the highest: 6.
+pub fn read_managers(s: &[u8], c: Cursor, n: usize, highest: usize) -> Managers
+    requires { ⌜ n ≤ 16 ⌝ }
+    ensures { λ r. ⌜ r ≡ managersAt (now (s .entry)) c n highest ⌝ }
+{
+    let none = no_manager();
+    let mut managers = [none; 16];
+    let mut numbers = [0usize; 16];
+    let mut ours = [false; 16];
+    let mut next = c;
+    let mut i = 0;
+    while i < n {
+        let name = aipsio::string(s, next, 0, 4096);
+        let number = aipsio::uint(s, name.next);
+        let k = first_number(&numbers, i, number.value);
+        let ok = is_new(k, i, number.value, highest);
+        let d = aipsio::judge(number.next, name.next.at, ok, 6);
+        let kind = kind_of(bytes_at::part(s, name.start, name.len));
+        let one = is_ours(kind);
+        managers[i] = Manager {
+            start: name.start,
+            number: number.value as u32,
+            len: name.len as u16,
+            kind: kind,
+            ours: one,
+        };
+        numbers[i] = number.value;
+        ours[i] = one;
+        next = d;
+        i += 1;
+    }
+    Managers {
+        managers: managers,
+        numbers: numbers,
+        ours: ours,
+        next: next,
+    }
+}
