@@ -39,12 +39,12 @@ fn finish(q: Question, g: Target, m: FileChecked, rows: usize) -> Staged
 {
     let p = lookup_parts::plan_for(g, m);
     let s = m.set;
-    let fresh = lookup_parts::fresh(q, p);
-    let r1 = lookup_parts::stage(m.refused, fresh, 12);
-    let below = lookup_parts::below(q, rows);
-    let r2 = lookup_parts::stage(r1, below, 9);
-    let seen = lookup_parts::seen(q, g.incremental, p.datatype);
-    let r3 = lookup_parts::stage(r2, seen, 14);
+    let fresh = question_parts::fresh(q, p);
+    let r1 = question_parts::stage(m.refused, fresh, 12);
+    let below = question_parts::below(q, rows);
+    let r2 = question_parts::stage(r1, below, 9);
+    let seen = question_parts::seen(q, g.incremental, p.datatype);
+    let r3 = question_parts::stage(r2, seen, 14);
     Staged {
         refused: r3,
         plan: p,
@@ -63,7 +63,7 @@ fn stages(table: &[u8], file: &[u8], q: Question, room: &mut [u8]) -> Staged
     ensures bounded { λ r. ⌜ (r .plan .offset < 4294967296) × (r .plan .bits ≤ 4294967296) ⌝ }
 {
     let d = table::describe(table);
-    let position = lookup_parts::position_of(q);
+    let position = question_parts::position_of(q);
     let at = lookup_parts::place_of(position);
     let described = d.columns[at];
     let bound = d.bindings[at];
@@ -80,7 +80,7 @@ fn stages(table: &[u8], file: &[u8], q: Question, room: &mut [u8]) -> Staged
         q,
     );
     if g.incremental {
-        let row = lookup_parts::row_of(q);
+        let row = question_parts::row_of(q);
         let there = incremental::check(d, file, g.sequence, g.refused, g.position, row);
         let none = standard_text::no_set();
         let found = FileChecked {
@@ -157,8 +157,8 @@ fn cell_bit(room: &[u8], s: Staged, q: Question) -> usize
     requires { ⌜ (s .refused ≡ 0 → T (asksCell q) → s .incremental ≡ false → Findable (now room) s (rowOf q)) ⌝ }
     ensures { λ r. ⌜ r ≡ cellBit (now (room .entry)) s q ⌝ }
 {
-    let wanted = lookup_parts::asks_cell(q);
-    let row = lookup_parts::row_of(q);
+    let wanted = question_parts::asks_cell(q);
+    let row = question_parts::row_of(q);
     if s.refused != 0 {
         return 0;
     }
@@ -177,7 +177,7 @@ fn cell_bit(room: &[u8], s: Staged, q: Question) -> usize
 fn answer(s: Staged, q: Question, first: usize) -> Answer
     ensures { λ r. ⌜ r ≡ answerWith s q first ⌝ }
 {
-    let wanted = lookup_parts::asks_cell(q);
+    let wanted = question_parts::asks_cell(q);
     let refused = s.refused;
     if refused != 0 {
         return Answer {

@@ -1,8 +1,8 @@
--- `lookup_parts::seen` meets its contract.
+-- `question_parts::seen` meets its contract.
 use borrow.Author.Needs.{needs}
 use Rattle.bytes_at.proofs.Stepped.{free}
-use Rattle.lookup_parts.proofs.seen.Statement.{statement}
-use Rattle.lookup_parts.proofs.seen.Tie as tie
+use Rattle.question_parts.proofs.seen.Statement.{statement}
+use Rattle.question_parts.proofs.seen.Tie as tie
 
 pub seen-spec : {M : Type 1} → statement M
 seen-spec =

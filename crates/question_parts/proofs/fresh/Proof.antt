@@ -1,7 +1,7 @@
--- `lookup_parts::fresh` meets its contract.
+-- `question_parts::fresh` meets its contract.
 use borrow.Author.Needs.{needs}
-use Rattle.lookup_parts.proofs.fresh.Statement.{statement}
-use Rattle.lookup_parts.proofs.fresh.Tie as tie
+use Rattle.question_parts.proofs.fresh.Statement.{statement}
+use Rattle.question_parts.proofs.fresh.Tie as tie
 
 pub fresh-spec : {M : Type 1} → statement M
 fresh-spec =

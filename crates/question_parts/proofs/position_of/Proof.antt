@@ -1,12 +1,11 @@
--- `lookup_parts::row_of` meets its contract.
+-- `question_parts::position_of` meets its contract.
 use borrow.Author.Needs.{needs}
-use Rattle.lookup_parts.proofs.row_of.Statement.{statement}
-use Rattle.lookup_parts.proofs.row_of.Tie as tie
+use Rattle.question_parts.proofs.position_of.Statement.{statement}
+use Rattle.question_parts.proofs.position_of.Tie as tie
 
-pub row-of-spec : {M : Type 1} → statement M
-row-of-spec =
+pub position-of-spec : {M : Type 1} → statement M
+position-of-spec =
     tie.close (tie.spec
-    (λ c. search needs)
     (λ c. search needs)
     (λ c. search needs)
     (λ c. search needs)
@@ -17,4 +16,5 @@ row-of-spec =
     (λ c. rw (c .before .q .given .1))
     (λ c. rw (c .before .q2 .given .1))
     (λ c. rw (c .before .q3 .given .1))
-    (λ c. rw (c .before .q4 .given .1)))
+    (λ c. rw (c .before .q4 .given .1))
+    (λ c. rw (c .before .q5 .given .1)))

@@ -1,11 +1,12 @@
--- `lookup_parts::position_of` meets its contract.
+-- `question_parts::below` meets its contract.
 use borrow.Author.Needs.{needs}
-use Rattle.lookup_parts.proofs.position_of.Statement.{statement}
-use Rattle.lookup_parts.proofs.position_of.Tie as tie
+use Rattle.question_parts.proofs.below.Statement.{statement}
+use Rattle.question_parts.proofs.below.Tie as tie
 
-pub position-of-spec : {M : Type 1} → statement M
-position-of-spec =
+pub below-spec : {M : Type 1} → statement M
+below-spec =
     tie.close (tie.spec
+    (λ c. search needs)
     (λ c. search needs)
     (λ c. search needs)
     (λ c. search needs)
@@ -16,5 +17,4 @@ position-of-spec =
     (λ c. rw (c .before .q .given .1))
     (λ c. rw (c .before .q2 .given .1))
     (λ c. rw (c .before .q3 .given .1))
-    (λ c. rw (c .before .q4 .given .1))
-    (λ c. rw (c .before .q5 .given .1)))
+    (λ c. rw (c .before .q4 .given .1)))

@@ -1,10 +1,10 @@
--- `lookup_parts::below` meets its contract.
+-- `question_parts::row_of` meets its contract.
 use borrow.Author.Needs.{needs}
-use Rattle.lookup_parts.proofs.below.Statement.{statement}
-use Rattle.lookup_parts.proofs.below.Tie as tie
+use Rattle.question_parts.proofs.row_of.Statement.{statement}
+use Rattle.question_parts.proofs.row_of.Tie as tie
 
-pub below-spec : {M : Type 1} → statement M
-below-spec =
+pub row-of-spec : {M : Type 1} → statement M
+row-of-spec =
     tie.close (tie.spec
     (λ c. search needs)
     (λ c. search needs)

@@ -1,7 +1,7 @@
--- `lookup_parts::is_column` meets its contract.
+-- `question_parts::is_column` meets its contract.
 use borrow.Author.Needs.{needs}
-use Rattle.lookup_parts.proofs.is_column.Statement.{statement}
-use Rattle.lookup_parts.proofs.is_column.Tie as tie
+use Rattle.question_parts.proofs.is_column.Statement.{statement}
+use Rattle.question_parts.proofs.is_column.Tie as tie
 
 pub is-column-spec : {M : Type 1} → statement M
 is-column-spec =

@@ -1,7 +1,7 @@
--- `lookup_parts::is_placed` meets its contract.
+-- `question_parts::is_placed` meets its contract.
 use borrow.Author.Needs.{needs}
-use Rattle.lookup_parts.proofs.is_placed.Statement.{statement}
-use Rattle.lookup_parts.proofs.is_placed.Tie as tie
+use Rattle.question_parts.proofs.is_placed.Statement.{statement}
+use Rattle.question_parts.proofs.is_placed.Tie as tie
 
 pub is-placed-spec : {M : Type 1} → statement M
 is-placed-spec =
