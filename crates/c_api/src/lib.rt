@@ -105,7 +105,7 @@ pub extern "C" fn hv_column_by_name(table: &[u8], name: &[u8], out: &mut [u64]) 
 pub extern "C" fn hv_check(table: &[u8], file: &[u8], sequence: u64, room: &mut [u8]) -> u64
     ensures { λ r. ⌜ (r ≡ answerOf (now (table .entry)) (now (file .entry)) (Question.Check sequence) (length (now (room .entry))) .refused) × (now (room .exit) ≡ roomAfter (now (table .entry)) (now (file .entry)) (Question.Check sequence) (length (now (room .entry)))) ⌝ }
 {
-    let a = lookup::ask(table, file, Question::Check(sequence as usize), room);
+    let a = lookup_ask::ask(table, file, Question::Check(sequence as usize), room);
     a.refused as u64
 }
 
@@ -123,7 +123,7 @@ pub extern "C" fn hv_plan(
     if out.len() < 9 {
         return 255;
     }
-    let a = lookup::ask(table, file, Question::Prepare(position as usize), room);
+    let a = lookup_ask::ask(table, file, Question::Prepare(position as usize), room);
     let p = a.plan;
     let values = [
         p.position as u64,
@@ -146,7 +146,7 @@ fn answer_place(table: &[u8], file: &[u8], q: Question, room: &mut [u8], out: &m
     if out.len() < 2 {
         return 255;
     }
-    let a = lookup::ask(table, file, q, room);
+    let a = lookup_ask::ask(table, file, q, room);
     let values = [a.first as u64, a.count as u64];
     c_values::answer(a.refused as u64, &values, out)
 }
@@ -158,7 +158,7 @@ fn answer_view(table: &[u8], file: &[u8], q: Question, room: &mut [u8], out: &mu
     if out.len() < 2 {
         return 255;
     }
-    let a = lookup::ask(table, file, q, room);
+    let a = lookup_ask::ask(table, file, q, room);
     let values = [(a.first / 8) as u64, (a.count / 8) as u64];
     c_values::answer(a.refused as u64, &values, out)
 }

@@ -1,5 +1,2 @@
 -- Laws that the proofs cite.
 pub mod Laws
-pub mod Gathering
-pub mod Placing
-pub mod Cells

@@ -1,8 +1,8 @@
--- `lookup::cell_bit` meets its contract.
+-- `lookup_ask::cell_bit` meets its contract.
 use Rattle.bytes_at.proofs.Stepped.{free}
-use Rattle.lookup.proofs.Cells.{bit-refused, bit-none, bit-there, can-find, bit-here}
-use Rattle.lookup.proofs.cell_bit.Statement.{statement}
-use Rattle.lookup.proofs.cell_bit.Tie as tie
+use Rattle.lookup_ask.proofs.Cells.{bit-refused, bit-none, bit-there, can-find, bit-here}
+use Rattle.lookup_ask.proofs.cell_bit.Statement.{statement}
+use Rattle.lookup_ask.proofs.cell_bit.Tie as tie
 
 first-bit-requires : tie.Need-first-bit-requires
 first-bit-requires c κs =

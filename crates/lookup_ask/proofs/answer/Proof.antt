@@ -1,8 +1,8 @@
--- `lookup::answer` meets its contract.
+-- `lookup_ask::answer` meets its contract.
 use Rattle.bytes_at.proofs.Stepped.{free}
-use Rattle.lookup.proofs.Cells.{answer-refused, answer-cell, answer-none}
-use Rattle.lookup.proofs.answer.Statement.{statement}
-use Rattle.lookup.proofs.answer.Tie as tie
+use Rattle.lookup_ask.proofs.Cells.{answer-refused, answer-cell, answer-none}
+use Rattle.lookup_ask.proofs.answer.Statement.{statement}
+use Rattle.lookup_ask.proofs.answer.Tie as tie
 
 pub answer-spec : {M : Type 1} → statement M
 answer-spec =

@@ -1,6 +1,5 @@
 -- The cell that a question asks for, by the lent room, and the room after a question.
 use Prim.Native.Nat.{ℕ, _≤_, _<_}
-use mathlib.Core.Path.{_≡_}
 use mathlib.Core.List.{List}
 use mathlib.Core.Bool.{Bool, cond, _&&_, not}
 use lib.ListN.{length, replicate}
@@ -8,20 +7,10 @@ use lib.Dec.{eqb}
 use Rattle.cell_map.specs.Map.{Bits}
 use Rattle.standard_text.specs.Index.{SetInside}
 use Rattle.standard_place.specs.Bit.{bitOf}
-use Rattle.table.specs.Table.{describedAs}
 use Rattle.lookup_rules.specs.declared.Question.{Question}
-use Rattle.lookup_rules.specs.declared.Target.{Target}
-use Rattle.lookup_rules.specs.declared.FileChecked.{FileChecked}
 use Rattle.lookup_rules.specs.declared.Staged.{Staged}
 use Rattle.lookup_rules.specs.declared.Answer.{Answer}
-use Rattle.lookup_rules.specs.Questions.{rowOf, asksCell, targetOf, fileOf, answered}
-
--- What a table and a file give a question: the column and the manager, what the check of the manager's file tells, and the row
--- count.
-pub record Reached (t f : List ℕ) (q : Question) (l : ℕ) (g : Target) (m : FileChecked) (rows : ℕ) : Type 0 where
-  pub target-is : g ≡ targetOf (describedAs t) q
-  pub file-is : m ≡ fileOf (describedAs t) g f (rowOf q) l
-  pub rows-are : rows ≡ describedAs t .rows
+use Rattle.lookup_rules.specs.Questions.{rowOf, asksCell, answered}
 
 -- "It is all zero after every refusal and for every IncrementalStMan file"
 abbrev pub keepsText : Staged → Bool

@@ -45,8 +45,8 @@ use Rattle.lookup_rules.proofs.Files.{file-standard, file-incremental, standard
 use Rattle.lookup_rules.proofs.Places.{place-standard}
 use Rattle.lookup_rules.proofs.IncrementalPlaces.{place-there}
 use Rattle.lookup_rules.proofs.Stages.{check-of, row-passed, stages-sequence, stages-kind, target-column, target-sequence, target-position, target-binding, target-described, stages-plan, stages-set, stages-first}
-use Rattle.lookup.specs.Lookup.{Findable, cellBit, answerWith}
-use Rattle.lookup.proofs.Placing.{set-told, size-told, set-known, set-same, set-covered, set-inside, size-most}
+use Rattle.lookup_ask.specs.Answering.{Findable, cellBit, answerWith}
+use Rattle.lookup_ask.proofs.Placing.{set-told, size-told, set-known, set-same, set-covered, set-inside, size-most}
 
 -- a set that lies in a text lies in a longer one
 longer : {a b : ℕ} {x : Set} → a ≤ b → SetInside a 4 x → SetInside b 4 x

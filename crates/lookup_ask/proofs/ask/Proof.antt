@@ -1,10 +1,10 @@
--- `lookup::ask` meets its contract.
+-- `lookup_ask::ask` meets its contract.
 use borrow.Author.Needs.{needs}
 use Rattle.bytes_at.proofs.Stepped.{free}
-use Rattle.lookup.proofs.Laws.{room-is}
-use Rattle.lookup.proofs.Cells.{findable-by, answer-by}
-use Rattle.lookup.proofs.ask.Statement.{statement}
-use Rattle.lookup.proofs.ask.Tie as tie
+use Rattle.lookup_ask.proofs.Laws.{room-is}
+use Rattle.lookup_ask.proofs.Cells.{findable-by, answer-by}
+use Rattle.lookup_ask.proofs.ask.Statement.{statement}
+use Rattle.lookup_ask.proofs.ask.Tie as tie
 
 cell-bit-requires : tie.Need-cell-bit-requires
 cell-bit-requires c κs = findable-by _ _ _ _ (c .before .before .before .stages .ensures .0 .0) (c .before .before .before .stages .ensures .0 .1) (c .before .before .before .stages .ensures .1 .0) (c .before .before .before .stages .ensures .1 .1)

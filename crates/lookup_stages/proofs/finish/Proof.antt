@@ -1,10 +1,10 @@
--- `lookup::finish` meets its contract: its calls compose as the definition says.
+-- `lookup_stages::finish` meets its contract: its calls compose as the definition says.
 use mathlib.Core.Path.{refl}
 use Rattle.bytes_at.proofs.Stepped.{via, free}
 use Rattle.lookup_rules.specs.Questions.{stagesOf}
-use Rattle.lookup.proofs.Laws.{passed}
-use Rattle.lookup.proofs.finish.Statement.{statement}
-use Rattle.lookup.proofs.finish.Tie as tie
+use Rattle.lookup_stages.proofs.Laws.{passed}
+use Rattle.lookup_stages.proofs.finish.Statement.{statement}
+use Rattle.lookup_stages.proofs.finish.Tie as tie
 
 returns : tie.Need-returns
 unfolding stagesOf

@@ -1,14 +1,14 @@
--- `lookup::stages` meets its contract. The loop's invariant: the numbers of the first i columns are taken.
+-- `lookup_stages::stages` meets its contract. The loop's invariant: the numbers of the first i columns are taken.
 use Prim.Native.Nat.{_-_}
 use native.Mathlib.Omega.{arith}
 use borrow.Author.Needs.{needs}
 use Rattle.bytes_at.proofs.Stepped.{free}
 use Rattle.column_desc.specs.ColumnDesc.{blank}
 use Rattle.column_set.specs.ColumnSet.{noBinding}
-use Rattle.lookup.proofs.Gathering.{Gathering, gathering-start, gathering-again, offsets-low, bits-low, given}
-use Rattle.lookup.proofs.Laws.{taken, reached-there, reached-here, no-text, room-text}
-use Rattle.lookup.proofs.stages.Statement.{statement}
-use Rattle.lookup.proofs.stages.Tie as tie
+use Rattle.lookup_stages.proofs.Gathering.{Gathering, gathering-start, gathering-again, offsets-low, bits-low, given}
+use Rattle.lookup_stages.proofs.Laws.{taken, reached-there, reached-here, no-text, room-text}
+use Rattle.lookup_stages.proofs.stages.Statement.{statement}
+use Rattle.lookup_stages.proofs.stages.Tie as tie
 
 abbrev Inv-loop : tie.InvT-loop
 Inv-loop table file q room d position at g n sequence kept₀ owners₀ offsets₀ bits₀ i₀ kept owners offsets bits i =

@@ -1,0 +1,115 @@
+// All stages of a question over a table and a data file, in their order (document 01, "The questions").
+ghost use mathlib.Core.Path.{_≡_};
+ghost use mathlib.Core.Bool.{false};
+ghost use mathlib.Core.List.{List};
+ghost use Prim.Native.Nat.{ℕ, _≤_, _<_};
+ghost use lib.ListN.{length};
+ghost use Rattle.table.specs.Table.{describedAs};
+ghost use Rattle.buckets.specs.Chain.{padded};
+ghost use Rattle.standard_text.specs.Header.{headerAt};
+ghost use Rattle.standard_rules.specs.Rules.{textOf};
+ghost use Rattle.lookup_rules.specs.Questions.{stagesOf};
+ghost use Rattle.lookup_stages.specs.Stages.{Reached};
+use lookup_rules::FileChecked;
+use lookup_rules::Question;
+use lookup_rules::Staged;
+use lookup_rules::Target;
+
+// The stages after the check of the manager's file.
+fn finish(q: Question, g: Target, m: FileChecked, rows: usize) -> Staged
+    ensures { λ r. ⌜ ((t f : List ℕ) (l : ℕ) → Reached t f q l g m rows → r ≡ stagesOf t f q l) × (r .refused ≡ 0 → m .refused ≡ 0) × (r .incremental ≡ g .incremental) ⌝ }
+    ensures bounded { λ r. ⌜ (r .plan .offset < 4294967296) × (r .plan .bits ≤ 4294967296) ⌝ }
+{
+    let p = lookup_parts::plan_for(g, m);
+    let s = m.set;
+    let fresh = question_parts::fresh(q, p);
+    let r1 = question_parts::stage(m.refused, fresh, 12);
+    let below = question_parts::below(q, rows);
+    let r2 = question_parts::stage(r1, below, 9);
+    let seen = question_parts::seen(q, g.incremental, p.datatype);
+    let r3 = question_parts::stage(r2, seen, 14);
+    Staged {
+        refused: r3,
+        plan: p,
+        sequence: g.sequence,
+        incremental: g.incremental,
+        set: s,
+        first: m.first,
+    }
+}
+
+// All stages in their order. The room holds the index text of a StandardStMan file where none refuses; else it may hold
+// anything. The description is read here, where it lies: a function that takes it copies it. So StandardStMan's check is lent the
+// columns' numbers.
+pub fn stages(table: &[u8], file: &[u8], q: Question, room: &mut [u8]) -> Staged
+    ensures { λ r. ⌜ (r ≡ stagesOf (now (table .entry)) (now (file .entry)) q (length (now (room .entry)))) × (r .refused ≡ 0 → r .incremental ≡ false → now (room .exit) ≡ padded (length (now (room .entry))) (textOf (now (file .entry)) (headerAt (now (file .entry)) (describedAs (now (table .entry)) .big)))) ⌝ }
+    ensures bounded { λ r. ⌜ (r .plan .offset < 4294967296) × (r .plan .bits ≤ 4294967296) ⌝ }
+{
+    let d = table::describe(table);
+    let position = question_parts::position_of(q);
+    let at = lookup_parts::place_of(position);
+    let described = d.columns[at];
+    let bound = d.bindings[at];
+    let column = lookup_parts::column_if(position, described);
+    let binding = lookup_parts::binding_if(position, bound);
+    let managers = d.managers;
+    let g = lookup_parts::find_target(
+        d.refused,
+        d.column_count,
+        managers,
+        d.manager_count,
+        column,
+        binding,
+        q,
+    );
+    if g.incremental {
+        let row = question_parts::row_of(q);
+        let there = incremental::check(d, file, g.sequence, g.refused, g.position, row);
+        let none = standard_text::no_set();
+        let found = FileChecked {
+            refused: there.refused,
+            size: there.size,
+            set: none,
+            first: there.first,
+        };
+        return finish(q, g, found, d.rows);
+    }
+    let n = d.column_count;
+    let sequence = g.sequence;
+    let mut kept = [false; 64];
+    let mut owners = [0usize; 64];
+    let mut offsets = [0usize; 64];
+    let mut bits = [0usize; 64];
+    let mut i = 0;
+    while i < n {
+        let c = d.columns[i];
+        let b = d.bindings[i];
+        kept[i] = b.sequence as usize == sequence;
+        owners[i] = b.set as usize;
+        offsets[i] = b.offset as usize;
+        bits[i] = c.bits as usize;
+        i += 1;
+    }
+    let own = g.binding;
+    let here = standard::check(
+        d.rows,
+        d.big,
+        &kept,
+        &owners,
+        &offsets,
+        &bits,
+        n,
+        file,
+        g.refused,
+        own.set as usize,
+        room,
+    );
+    let set = here.set;
+    let told = FileChecked {
+        refused: here.refused,
+        size: here.size,
+        set: set,
+        first: 0,
+    };
+    finish(q, g, told, d.rows)
+}
