@@ -1,19 +1,34 @@
--- The target of a question, from what it asks of a table. Assumes nothing.
-use mathlib.Core.Path.{_≡_}
+-- The target of a question, from what it asks of a table, and its manager. Assumes nothing.
+use mathlib.Core.Path.{_≡_, ap, _∙_}
 use mathlib.Core.Bool.{Bool}
 use mathlib.Core.List.{List}
-use Prim.Native.Nat.{ℕ}
+use Prim.Native.Nat.{ℕ, _≤_}
+use lib.Dec.{eqb}
+use lib.ListN.{length, getD}
+use Rattle.bytes_at.specs.First.{firstBelow}
 use Rattle.bytes_at.specs.Stages.{_▷_, orNo}
 use Rattle.bytes_at.specs.Steps.{_>>=_}
 use Rattle.column_desc.specs.declared.Column.{Column}
 use Rattle.column_set.specs.declared.Binding.{Binding}
 use Rattle.data_managers.specs.declared.Manager.{Manager}
 use Rattle.data_managers.specs.declared.Kind.{Kind}
+use Rattle.data_managers.specs.DataManagers.{noManager}
 use Rattle.table.specs.declared.Description.{Description}
 use Rattle.lookup_rules.specs.declared.Question.{Question}
 use Rattle.lookup_rules.specs.declared.Target.{Target}
 use Rattle.lookup_rules.specs.Questions.{positionOf, sequenceOf, isColumn, kindWith, isIncremental, isPlaced, isHeld, targetOf}
 use Rattle.lookup_parts.specs.Taken.{Taken}
+use Rattle.lookup_parts.proofs.Past.{past}
+
+-- the kind of the manager that is found
+pub kind-is : (managers : List Manager) (n sequence i : ℕ) {k : Kind} → i ≡ firstBelow (λ (k : ℕ). eqb (getD managers k noManager .number) sequence) n
+    → k ≡ getD managers i noManager .kind → k ≡ kindWith managers n sequence
+unfolding kindWith
+kind-is managers n sequence i e h = h ∙ ap (λ (k : ℕ). getD managers k noManager .kind) e
+
+-- none stands past the end
+pub kind-past : (managers : List Manager) (i : ℕ) {m : Manager} → m ≡ noManager → length managers ≡ 16 → 16 ≤ i → m .kind ≡ getD managers i noManager .kind
+kind-past managers i e l h = ap (λ (m : Manager). m .kind) (past 16 managers e l h)
 
 pub target-is : (d : Description) (q : Question) {refused columns count : ℕ} {managers : List Manager} {c : Column} {b : Binding}
     → Taken d q refused columns managers count c b

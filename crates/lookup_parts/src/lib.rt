@@ -5,9 +5,7 @@ ghost use mathlib.Core.Bool.{cond};
 ghost use Prim.Native.Nat.{ℕ, _≤_, _<_};
 ghost use lib.Dec.{eqb, ltb};
 ghost use lib.ListN.{getD};
-ghost use Rattle.bytes_at.specs.First.{firstBelow};
 ghost use Rattle.column_desc.specs.ColumnDesc.{blank};
-ghost use Rattle.data_managers.specs.DataManagers.{noManager};
 ghost use Rattle.column_set.specs.ColumnSet.{noBinding};
 ghost use Rattle.table.specs.declared.Description.{Description};
 ghost use Rattle.lookup_rules.specs.Questions.{
@@ -60,40 +58,25 @@ pub fn binding_if(position: usize, binding: Binding) -> Binding
     column_set::no_binding()
 }
 
-// The manager at a place of the list; none past its end.
-pub fn manager_at(managers: [Manager; 16], i: usize) -> Manager
-    ensures { λ r. ⌜ r ≡ getD managers i noManager ⌝ }
-{
-    if i < 16 {
-        return managers[i];
-    }
-    data_managers::no_manager()
-}
-
-// The first of the managers with the sequence number, or their number.
-pub fn find_manager(managers: [Manager; 16], count: usize, sequence: usize) -> usize
+// The kind of the first of the managers with the sequence number; where none has it, of the manager that stands past them.
+pub fn kind_with(managers: [Manager; 16], count: usize, sequence: usize) -> Kind
     requires { ⌜ count ≤ 16 ⌝ }
-    ensures { λ r. ⌜ r ≡ firstBelow (λ (k : ℕ). eqb (getD managers k noManager .number) sequence) count ⌝ }
+    ensures { λ r. ⌜ r ≡ kindWith managers count sequence ⌝ }
 {
     let mut i = 0;
     while i < count {
         let m = managers[i];
         if m.number as usize == sequence {
-            return i;
+            return m.kind;
         }
         i += 1;
     }
-    i
-}
-
-// The kind of the first manager with the sequence number.
-pub fn kind_with(managers: [Manager; 16], count: usize, sequence: usize) -> Kind
-    requires { ⌜ count ≤ 16 ⌝ }
-    ensures { λ r. ⌜ r ≡ kindWith managers count sequence ⌝ }
-{
-    let i = find_manager(managers, count, sequence);
-    let m = manager_at(managers, i);
-    m.kind
+    if i < 16 {
+        let m = managers[i];
+        return m.kind;
+    }
+    let none = data_managers::no_manager();
+    none.kind
 }
 
 pub fn is_incremental(kind: Kind) -> bool

@@ -2,21 +2,15 @@
 use mathlib.Core.Path.{_≡_, refl, sym, ap, _∙_}
 use mathlib.Core.Bool.{Bool, true, false}
 use mathlib.Core.List.{List}
-use Prim.Native.Nat.{ℕ, zero, suc, _≤_}
+use Prim.Native.Nat.{ℕ, _≤_}
 use native.Mathlib.Omega.{arith}
 use borrow.Author.Tests.{ne-eqb}
-use lib.Dec.{eqb, leb, leb→le}
-use lib.ListN.{length, getD, take, drop, length-set, length-replicate, List·getD-eq-default}
-use Rattle.bytes_at.specs.declared.Width.{Width}
-use Rattle.bytes_at.specs.declared.Width.the-variants.{Four}
-use Rattle.bytes_at.specs.Loop.{after}
-use Rattle.bytes_at.specs.Steps.{_>>=_}
+use lib.Dec.{leb, leb→le}
+use lib.ListN.{length, getD, take, drop}
 use Rattle.bytes_at.specs.Stages.{_▷_, orNo}
 use Rattle.bytes_at.proofs.Stages.{then-left, then-right, or-passed, stops, goes, regroup, no-is, yes-is}
-use Rattle.aipsio.specs.declared.Cursor.{Cursor}
-use Rattle.aipsio.specs.Field.{judged}
 use Rattle.buckets.specs.Chain.{Area, indexOk, indexText, freeOk, padded}
-use Rattle.buckets.proofs.Room.{index-long as text-long, padded-text}
+use Rattle.buckets.proofs.Room.{index-long, padded-text}
 use Rattle.cell_map.specs.Map.{Column as MapColumn}
 use Rattle.cell_map.specs.Fits.{fits}
 use Rattle.table.specs.declared.Description.{Description}
@@ -24,37 +18,11 @@ use Rattle.standard_text.specs.declared.Header.{Header}
 use Rattle.manager_file.specs.Start.{longEnough}
 use Rattle.standard_text.specs.Header.{headerAt, HeaderBounds}
 use Rattle.standard_text.specs.declared.Set.{Set}
-use Rattle.standard_text.specs.declared.Sets.{Sets}
 use Rattle.standard_text.specs.declared.Index.{Index}
-use Rattle.standard_text.specs.Index.{noSet, setInto, noSets, setsAt, indexed as indexedAs, indexIn, indexAt}
+use Rattle.standard_text.specs.Index.{noSet, indexAt}
 use Rattle.standard_rules.specs.declared.Checked.{Checked}
 use Rattle.standard_rules.specs.Rules.{textOf, setsFrom, mapWith, mapOf, refusalOf, checkedAs}
-use Rattle.standard.specs.Standard.{Given, beforeIndex, refusedFile}
-
--- ---- an index has 16 places
-turns-long : (s : List ℕ) (c : Cursor) (width : Width) (n : ℕ) → length (after (setInto s width) (noSets c) n .sets) ≡ 16
-unfolding after setInto _>>=_
-turns-long s c width zero = length-replicate 16 noSet
-turns-long s c width (suc n) = length-set (after (setInto s width) (noSets c) n .sets) n _ ∙ turns-long s c width n
-
-indexed-long : (c : Cursor) (all : Sets) → length (all .sets) ≡ 16 → length (indexedAs c all .sets) ≡ 16
-unfolding indexedAs
-indexed-long c all h = go (eqb (c .refused) 0) refl
-  where
-    go : (z : Bool) → eqb (c .refused) 0 ≡ z → length (indexedAs c all .sets) ≡ 16
-    go true q = rw q h
-    go false q = rw q (length-replicate 16 noSet)
-
-index-long : (s : List ℕ) (n : ℕ) → length (indexAt s n .sets) ≡ 16
-unfolding indexIn setsAt _>>=_
-index-long s n =
-    let start : Cursor = record { at = 0; end = length s; big = 1; refused = 0 } in
-    let all = after (setInto s Four) (noSets start) n in
-    indexed-long (judged (all .next) (all .next .at) (eqb (all .next .at) (all .next .end)) 7) all (turns-long s start Four n)
-
--- past its end stands no set
-pub no-such-set : (s : List ℕ) (n k : ℕ) {x : Index} {none : Set} → x ≡ indexAt s n → none ≡ noSet → 16 ≤ k → none ≡ getD (x .sets) k noSet
-no-such-set s n k {x} e z h = z ∙ sym (List·getD-eq-default (x .sets) noSet {n = k} (omega (arith, ap (λ (i : Index). length (i .sets)) e ∙ index-long s n)))
+use Rattle.standard.specs.Standard.{Given, mapped, beforeIndex, refusedFile}
 
 -- ---- what the first stages show
 pub head-passed : (refused : ℕ) (h : Header) (len room : ℕ) → beforeIndex refused h len room ≡ 0 → h .refused ≡ 0
@@ -85,7 +53,7 @@ module _ (f : List ℕ) (h : Header) (l : ℕ) (area : Area f (h .size) (h .coun
   text-is : {x y : List ℕ} → (i ≡ true → x ≡ padded l (indexText f (h .size) (h .«index_count») (h .«first_index») (h .offset) (h .length)))
       → y ≡ take (h .length) (drop 0 x) → y ≡ textOf f h
   unfolding textOf
-  text-is p q = q ∙ ap (λ (r : List ℕ). take (h .length) r) (p b) ∙ padded-text l _ (h .length) (text-long f _ _ _ _ _ _ area (rw (← a, b) tt))
+  text-is p q = q ∙ ap (λ (r : List ℕ). take (h .length) r) (p b) ∙ padded-text l _ (h .length) (index-long f _ _ _ _ _ _ area (rw (← a, b) tt))
 
   module _ {x y : List ℕ} (p : i ≡ true → x ≡ padded l (indexText f (h .size) (h .«index_count») (h .«first_index») (h .offset) (h .length))) (q : y ≡ take (h .length) (drop 0 x)) where
     pub index-is : {ix : Index} → ix ≡ indexAt y (h .sets) → ix ≡ indexAt (textOf f h) (h .sets)
@@ -116,14 +84,14 @@ module _ (rows : ℕ) (big : Bool) (cs : List MapColumn) (f : List ℕ) (refused
   freed = freeOk f (h .size) (h .count) (h .«free_count») (h .«first_free»)
 
   -- the map as the code has it: over the header, the text and the sets that were read
-  abbrev mapped : Bool
-  mapped = fits (mapWith rows cs f h (setsFrom (textOf f h) (indexAt (textOf f h) (h .sets) .sets) (h .sets) 0))
+  abbrev fitting : Bool
+  fitting = fits (mapWith rows cs f h (setsFrom (textOf f h) (indexAt (textOf f h) (h .sets) .sets) (h .sets) 0))
 
-  same-map : (d : Description) (sequence : ℕ) → Given d sequence rows big cs → fits (mapOf d sequence f) ≡ mapped
+  same-map : (d : Description) (sequence : ℕ) → Given d sequence rows big cs → fits (mapOf d sequence f) ≡ fitting
   unfolding mapOf
   same-map d sequence g = rw (g .rows-are, g .columns-are, g .big-is, ← e)
 
-  staged : Refuses (beforeIndex refused h (length f) l ▷ (orNo indexed 10 ▷ (indexAt (textOf f h) (h .sets) .refused ▷ (orNo freed 10 ▷ orNo mapped 11))))
+  staged : Refuses (beforeIndex refused h (length f) l ▷ (orNo indexed 10 ▷ (indexAt (textOf f h) (h .sets) .refused ▷ (orNo freed 10 ▷ orNo fitting 11))))
   unfolding refusalOf beforeIndex
   staged d sequence g = rw (same-map d sequence g, g .big-is, ← e) (sym (rw (regroup, regroup, regroup)))
 
@@ -136,14 +104,14 @@ module _ (rows : ℕ) (big : Bool) (cs : List MapColumn) (f : List ℕ) (refused
   out-first n q z p = out n (λ d sequence g. staged d sequence g ∙ rw (← q) (stops n _ z)) z p
 
   module _ {n : ℕ} (q : n ≡ beforeIndex refused h (length f) l) (z : n ≡ 0) where
-    after-first : Refuses (orNo indexed 10 ▷ (indexAt (textOf f h) (h .sets) .refused ▷ (orNo freed 10 ▷ orNo mapped 11)))
+    after-first : Refuses (orNo indexed 10 ▷ (indexAt (textOf f h) (h .sets) .refused ▷ (orNo freed 10 ▷ orNo fitting 11)))
     after-first d sequence g = staged d sequence g ∙ goes _ _ (sym q ∙ z)
 
     pub out-index : {i : Bool} {r : Checked} {X : Type 0} → i ≡ indexed → i ≡ false → r ≡ refusedFile 10 → Answers r X
     out-index a b p = out 10 (λ d sequence g. after-first d sequence g ∙ rw (no-is indexed 10 (sym a ∙ b)) (stops 10 _ (omega arith))) (omega arith) p
 
     module _ {i : Bool} (a : i ≡ indexed) (b : i ≡ true) {x : Index} (y : x ≡ indexAt (textOf f h) (h .sets)) where
-      after-index : Refuses (x .refused ▷ (orNo freed 10 ▷ orNo mapped 11))
+      after-index : Refuses (x .refused ▷ (orNo freed 10 ▷ orNo fitting 11))
       after-index d sequence g = after-first d sequence g ∙ goes _ _ (yes-is indexed 10 (sym a ∙ b)) ∙ rw y
 
       pub out-text : {r : Checked} {X : Type 0} → (x .refused ≡ 0 → ⊥) → r ≡ refusedFile (x .refused) → Answers r X
@@ -157,12 +125,12 @@ module _ (rows : ℕ) (big : Bool) (cs : List MapColumn) (f : List ℕ) (refused
           after-free : {m : Bool} → m ≡ fits (mapWith rows cs f h (setsFrom (textOf f h) (x .sets) (h .sets) 0)) → Refuses (orNo m 11)
           after-free u d sequence g = after-index d sequence g ∙ goes _ _ w ∙ goes _ _ (yes-is freed 10 (sym c ∙ v)) ∙ rw (u, y)
 
-          pub out-map : {m : Bool} {r : Checked} {X : Type 0} → m ≡ fits (mapWith rows cs f h (setsFrom (textOf f h) (x .sets) (h .sets) 0))
-              → m ≡ false → r ≡ refusedFile 11 → Answers r X
-          out-map u j p = out 11 (λ d sequence g. after-free u d sequence g ∙ no-is _ 11 j) (omega arith) p
+          module _ {m : Bool} (u : m ≡ fits (mapWith rows cs f h (setsFrom (textOf f h) (x .sets) (h .sets) 0))) {r : Checked} {room : List ℕ}
+              (p : r ≡ mapped m (h .size) (getD (x .sets) k noSet)) (o : room ≡ padded l (textOf f h)) where
+            by-map : (b : Bool) → m ≡ b → Answers r (room ≡ padded l (textOf f (headerAt f big)))
+            unfolding mapped checkedAs
+            by-map false j = out 11 (λ d sequence g. after-free u d sequence g ∙ no-is _ 11 j) (omega arith) (rw j at p)
+            by-map true j = (λ d sequence g. (rw j at p) ∙ sym (rw (after-free u d sequence g ∙ yes-is _ 11 j, g .big-is, ← e, ← y)), λ z. rw (← e) o)
 
-          pub accepted : {m : Bool} {room : List ℕ} {set : Set} → m ≡ fits (mapWith rows cs f h (setsFrom (textOf f h) (x .sets) (h .sets) 0))
-              → m ≡ true → set ≡ getD (x .sets) k noSet → room ≡ padded l (textOf f h)
-              → Answers (record { refused = 0; size = h .size; set = set }) (room ≡ padded l (textOf f (headerAt f big)))
-          unfolding checkedAs
-          accepted u j p o = (λ d sequence g. sym (rw (after-free u d sequence g ∙ yes-is _ 11 j, g .big-is, ← e, ← y, p)), λ z. rw (← e) o)
+            pub out-map : Answers r (room ≡ padded l (textOf f (headerAt f big)))
+            out-map = by-map m refl

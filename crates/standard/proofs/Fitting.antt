@@ -3,17 +3,20 @@ use mathlib.Core.Path.{_≡_, refl, sym, ap, _∙_}
 use mathlib.Core.Bool.{Bool, true, false, _&&_}
 use mathlib.Core.List.{List}
 use Prim.Native.Nat.{ℕ, _≤_}
-use lib.ListN.{length}
+use native.Mathlib.Omega.{arith}
+use lib.ListN.{length, getD, List·getD-eq-default}
 use Rattle.buckets.specs.Chain.{links}
 use Rattle.cell_map.specs.Tests.{all, allFrom, pairs}
 use Rattle.cell_map.specs.Map.{Map, Column as MapColumn}
 use Rattle.cell_map.specs.Fits.{setFits, countFits, setKnown, inBucket, clear, dataOf, extents, below, unlike, used, fits}
 use Rattle.standard_text.specs.declared.Header.{Header}
 use Rattle.standard_text.specs.declared.Set.{Set}
+use Rattle.standard_rules.specs.declared.Checked.{Checked}
 use Rattle.standard_rules.specs.Rules.{setsFrom, mapWith}
 use Rattle.standard_sets.specs.Apart.{apartOf}
 use Rattle.standard_sets.specs.Sets.{rowsFit, dataBy}
 use Rattle.standard_columns.specs.Columns.{columnsTest}
+use Rattle.standard.specs.Standard.{mapped, refusedFile}
 use Rattle.standard.proofs.Gathering.{Gathering, sets-length, rows-in, data-in, counts-in, extents-in}
 
 regroup : (a b c d e f g : Bool) → a && b && c && d && e && f && g ≡ (a && (((c && d) && b) && e)) && (f && g)
@@ -60,3 +63,16 @@ module _ (rows : ℕ) (cs : List MapColumn) (f : List ℕ) (h : Header) (text : 
 
   pub last : {a b g : Bool} → a ≡ setsPart → a ≡ true → b ≡ columnsPart → b ≡ true → g ≡ bucketsPart → g ≡ fits whole
   last p x q y t = rw (x, y) at (by p q t)
+
+-- ---- what the test of the map tells
+pub map-wrong : {m : Bool} {r : Checked} (size : ℕ) (set : Set) → false ≡ m → r ≡ refusedFile 11 → r ≡ mapped m size set
+unfolding mapped
+map-wrong size set e p = rw (← e) p
+
+pub map-right : {m g : Bool} {size : ℕ} {set set′ : Set} → g ≡ m → g ≡ true → set ≡ set′ → _≡_ {A = Checked} (record { refused = 0; size = size; set = set }) (mapped m size set′)
+unfolding mapped
+map-right e t p = rw (← e, t, p)
+
+-- past the end of n elements stands the default
+pub past : {A : Type 0} {r d : A} {i : ℕ} (n : ℕ) (xs : List A) → r ≡ d → length xs ≡ n → n ≤ i → r ≡ getD xs i d
+past {A} {r} {d} {i} n xs e l h = e ∙ sym (List·getD-eq-default xs d {n = i} (omega arith))

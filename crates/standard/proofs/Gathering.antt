@@ -79,6 +79,7 @@ abbrev taken : (Set → ℕ) → List Set → ℕ → List ℕ
 taken p sets i = filled (λ k. p (getD sets k noSet)) (replicate 16 0) i
 
 pub record Gathering (sets : List Set) (m : ℕ) (entries pers columns lasts buckets : List ℕ) (i : ℕ) : Type 0 where
+  pub places : length sets ≡ 16
   pub within : i ≤ m
   pub entries-are : entries ≡ taken (λ s. s .entries) sets i
   pub pers-are : pers ≡ taken (λ s. s .per) sets i
@@ -86,8 +87,9 @@ pub record Gathering (sets : List Set) (m : ℕ) (entries pers columns lasts buc
   pub lasts-are : lasts ≡ taken (λ s. s .lasts) sets i
   pub buckets-are : buckets ≡ taken (λ s. s .buckets) sets i
 
-pub gathering-start : (sets : List Set) (m : ℕ) → Gathering sets m (replicate 16 0) (replicate 16 0) (replicate 16 0) (replicate 16 0) (replicate 16 0) 0
-gathering-start sets m = record {
+pub gathering-start : (sets : List Set) (m : ℕ) → length sets ≡ 16 → Gathering sets m (replicate 16 0) (replicate 16 0) (replicate 16 0) (replicate 16 0) (replicate 16 0) 0
+gathering-start sets m h = record {
+  places = h;
   within = zero-le;
   entries-are = filled-none _ _;
   pers-are = filled-none _ _;
@@ -112,6 +114,7 @@ module _ {sets : List Set} {m : ℕ} {entries pers columns lasts buckets : List 
   pub gathering-again : i < m
       → Gathering sets m (set entries i (getD sets i noSet .entries)) (set pers i (getD sets i noSet .per)) (set columns i (getD sets i noSet .columns)) (set lasts i (getD sets i noSet .lasts)) (set buckets i (getD sets i noSet .buckets)) (i + 1)
   gathering-again h = record {
+    places = v .places;
     within = omega arith;
     entries-are = filled-more _ _ i (v .entries-are) refl;
     pers-are = filled-more _ _ i (v .pers-are) refl;

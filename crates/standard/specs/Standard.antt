@@ -1,13 +1,14 @@
 -- What the check of a StandardStMan file gives, and of which tables.
 use Prim.Native.Nat.{ℕ}
 use mathlib.Core.Path.{_≡_}
-use mathlib.Core.Bool.{Bool}
+use mathlib.Core.Bool.{Bool, cond}
 use mathlib.Core.List.{List}
 use lib.Dec.{leb}
 use Rattle.bytes_at.specs.Stages.{_▷_, orNo}
 use Rattle.table.specs.declared.Description.{Description}
 use Rattle.cell_map.specs.Map.{Column as MapColumn}
 use Rattle.standard_text.specs.declared.Header.{Header}
+use Rattle.standard_text.specs.declared.Set.{Set}
 use Rattle.manager_file.specs.Start.{longEnough}
 use Rattle.standard_text.specs.Index.{noSet}
 use Rattle.standard_rules.specs.declared.Checked.{Checked}
@@ -22,6 +23,10 @@ pub record Given (d : Description) (sequence rows : ℕ) (big : Bool) (columns :
 -- "A refusal carries its number and zeros."
 unfoldable pub refusedFile : ℕ → Checked
 refusedFile number = record { refused = number; size = 0; set = noSet }
+
+-- 11 where the map is not right, else the bucket size and the set that is asked for
+unfoldable pub mapped : Bool → ℕ → Set → Checked
+mapped ok size set = cond ok (record { refused = 0; size = size; set = set }) (refusedFile 11)
 
 -- "header, file length (1), room (13)", after the refusal so far
 unfoldable pub beforeIndex : ℕ → Header → ℕ → ℕ → ℕ

@@ -10,28 +10,42 @@ ghost use Rattle.standard_text.specs.Header.{headerAt};
 ghost use Rattle.standard_text.specs.Index.{noSet, SetInside};
 ghost use Rattle.standard_rules.specs.Rules.{textOf, setsFrom, mapWith, checkedAs};
 ghost use Rattle.standard_columns.specs.Columns.{columnsBy};
-ghost use Rattle.standard.specs.Standard.{Given, beforeIndex, refusedFile};
+ghost use Rattle.standard.specs.Standard.{Given, mapped, beforeIndex, refusedFile};
 use standard_rules::Checked;
 use standard_text::Header;
 use standard_text::Set;
 
-// Whether the map of rows, buckets and extents is right. The sets' numbers are put into lists, since those can be lent.
-fn map_fits(
+// A refused file: its number and zeros.
+fn refuse(number: usize) -> Checked
+    ensures { λ r. ⌜ r ≡ refusedFile number ⌝ }
+{
+    let none = standard_text::no_set();
+    Checked {
+        refused: number,
+        size: 0,
+        set: none,
+    }
+}
+
+// The map of rows, buckets and extents: 11 where it is not right, else the bucket size and set k. The sets' numbers are put into
+// lists, since those can be lent.
+fn check_map(
     f: &[u8],
     h: Header,
     text: &[u8],
     sets: [Set; 16],
+    k: usize,
     rows: usize,
     kept: &[bool; 64],
     owners: &[usize; 64],
     offsets: &[usize; 64],
     bits: &[usize; 64],
     n: usize,
-) -> bool
+) -> Checked
     requires { ⌜ Area (now f) (h .size) (h .count) ⌝ }
     requires { ⌜ (n ≤ 64) × (h .sets ≤ 16) × ((k : ℕ) → k < h .sets → SetInside (length (now text)) 4 (getD sets k noSet)) ⌝ }
     requires { ⌜ ((i : ℕ) → i < n → getD (now offsets) i 0 < 4294967296) × ((i : ℕ) → i < n → getD (now bits) i 0 < 4294967296) ⌝ }
-    ensures { λ r. ⌜ r ≡ fits (mapWith rows (columnsBy (now (kept .entry)) (now (owners .entry)) (now (offsets .entry)) (now (bits .entry)) n 0) (now (f .entry)) h (setsFrom (now (text .entry)) sets (h .sets) 0)) ⌝ }
+    ensures { λ r. ⌜ r ≡ mapped (fits (mapWith rows (columnsBy (now (kept .entry)) (now (owners .entry)) (now (offsets .entry)) (now (bits .entry)) n 0) (now (f .entry)) h (setsFrom (now (text .entry)) sets (h .sets) 0))) (h .size) (getD sets k noSet) ⌝ }
 {
     let m = h.sets;
     let size = h.size;
@@ -41,23 +55,23 @@ fn map_fits(
     let mut columns = [0usize; 16];
     let mut lasts = [0usize; 16];
     let mut buckets = [0usize; 16];
-    let mut k = 0;
-    while k < m {
-        let s = sets[k];
-        entries[k] = s.entries;
-        pers[k] = s.per;
-        columns[k] = s.columns;
-        lasts[k] = s.lasts;
-        buckets[k] = s.buckets;
-        k += 1;
+    let mut i = 0;
+    while i < m {
+        let s = sets[i];
+        entries[i] = s.entries;
+        pers[i] = s.per;
+        columns[i] = s.columns;
+        lasts[i] = s.lasts;
+        buckets[i] = s.buckets;
+        i += 1;
     }
     if !standard_sets::sets_fit(text, &entries, &pers, &lasts, m, rows) {
-        return false;
+        return refuse(11);
     }
     if !standard_columns::columns_fit(kept, owners, offsets, bits, n, &pers, &columns, m, size) {
-        return false;
+        return refuse(11);
     }
-    standard_sets::buckets_apart(
+    if !standard_sets::buckets_apart(
         f,
         size,
         count,
@@ -69,7 +83,23 @@ fn map_fits(
         h.first_index,
         h.free_count,
         h.first_free,
-    )
+    ) {
+        return refuse(11);
+    }
+    if k < 16 {
+        let set = sets[k];
+        return Checked {
+            refused: 0,
+            size: size,
+            set: set,
+        };
+    }
+    let none = standard_text::no_set();
+    Checked {
+        refused: 0,
+        size: size,
+        set: none,
+    }
 }
 
 // The refusal before the index is looked at: the one so far, the header's, the file's length (1), the room (13).
@@ -91,18 +121,6 @@ fn before_index(refused: usize, h: Header, len: usize, room: usize) -> usize
         return 13;
     }
     0
-}
-
-// A refused file: its number and zeros.
-fn refuse(number: usize) -> Checked
-    ensures { λ r. ⌜ r ≡ refusedFile number ⌝ }
-{
-    let none = standard_text::no_set();
-    Checked {
-        refused: number,
-        size: 0,
-        set: none,
-    }
 }
 
 // The check of a manager's file, after the refusal so far, where set k is asked for. Where nothing is refused, the room holds the
@@ -151,21 +169,5 @@ pub fn check(
         return refuse(10);
     }
     let sets = index.sets;
-    if !map_fits(f, h, text, sets, rows, kept, owners, offsets, bits, n) {
-        return refuse(11);
-    }
-    if k < 16 {
-        let set = index.sets[k];
-        return Checked {
-            refused: 0,
-            size: h.size,
-            set: set,
-        };
-    }
-    let none = standard_text::no_set();
-    Checked {
-        refused: 0,
-        size: h.size,
-        set: none,
-    }
+    check_map(f, h, text, sets, k, rows, kept, owners, offsets, bits, n)
 }

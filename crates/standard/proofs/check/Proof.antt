@@ -3,7 +3,7 @@ use borrow.Author.Needs.{needs}
 use borrow.Author.Tests.{not-true, not-false}
 use mathlib.Core.Path.{refl, sym, _∙_}
 use Rattle.bytes_at.proofs.Stepped.{free}
-use Rattle.standard.proofs.Checking.{no-such-set, area-passed, room-passed, index-is, map-is, room-holds, out-first, out-index, out-text, out-free, out-map, accepted}
+use Rattle.standard.proofs.Checking.{area-passed, room-passed, index-is, map-is, room-holds, out-first, out-index, out-text, out-free, out-map}
 use Rattle.standard.proofs.check.Statement.{statement}
 use Rattle.standard.proofs.check.Tie as tie
 
@@ -25,17 +25,11 @@ free-list-ok-requires c κs = (area-passed _ _ _ _ (c .before .before .before .b
 returns-4 : tie.Need-returns-4
 returns-4 c = out-free _ _ _ _ _ _ _ _ (c .before .before .before .before .before .before .before .before .before .before .before .before .before .before .read-header .ensures .0) (c .before .before .before .before .before .before .before .before .before .before .before .before .before .before-index .ensures) (c .before .before .before .before .before .before .before .before .before .before .before .before .if1 .left) (c .before .before .before .before .before .before .before .before .before .before .gather-index .ensures .0) (not-false _ (c .before .before .before .before .before .before .before .if2 .left)) (index-is _ _ _ (area-passed _ _ _ _ (c .before .before .before .before .before .before .before .before .before .before .before .before .before .before .read-header .ensures .1 .0) (sym (c .before .before .before .before .before .before .before .before .before .before .before .before .before .before-index .ensures) ∙ (c .before .before .before .before .before .before .before .before .before .before .before .before .if1 .left))) (c .before .before .before .before .before .before .before .before .before .before .gather-index .ensures .0) (not-false _ (c .before .before .before .before .before .before .before .if2 .left)) (c .before .before .before .before .before .before .before .before .before .before .gather-index .ensures .1) (c .before .before .before .before .before .part .ensures) (c .before .before .before .before .read-index .ensures .0)) (c .before .before .before .if3 .left) (c .before .before .free-list-ok .ensures) (not-true _ (c .before .if4 .taken)) (c .refuse4 .ensures)
 
-map-fits-requires : tie.Need-map-fits-requires
-map-fits-requires c κs = ((area-passed _ _ _ _ (c .before .before .before .before .before .before .before .before .before .before .before .before .before .before .read-header .ensures .1 .0) (sym (c .before .before .before .before .before .before .before .before .before .before .before .before .before .before-index .ensures) ∙ (c .before .before .before .before .before .before .before .before .before .before .before .before .if1 .left))), ((c .before .before .before .before .before .before .before .before .before .before .before .before .before .before .before .before .before .pre .0, c .before .before .before .before .before .before .before .before .before .before .before .before .before .before .read-header .ensures .1 .0 .sets-most, c .before .before .before .before .read-index .ensures .1 (c .before .before .before .if3 .left)), c .before .before .before .before .before .before .before .before .before .before .before .before .before .before .before .before .before .pre .1))
+check-map-requires : tie.Need-check-map-requires
+check-map-requires c κs = ((area-passed _ _ _ _ (c .before .before .before .before .before .before .before .before .before .before .before .before .before .before .read-header .ensures .1 .0) (sym (c .before .before .before .before .before .before .before .before .before .before .before .before .before .before-index .ensures) ∙ (c .before .before .before .before .before .before .before .before .before .before .before .before .if1 .left))), ((c .before .before .before .before .before .before .before .before .before .before .before .before .before .before .before .before .before .pre .0, c .before .before .before .before .before .before .before .before .before .before .before .before .before .before .read-header .ensures .1 .0 .sets-most, c .before .before .before .before .read-index .ensures .1 (c .before .before .before .if3 .left)), c .before .before .before .before .before .before .before .before .before .before .before .before .before .before .before .before .before .pre .1))
 
 returns-5 : tie.Need-returns-5
-returns-5 c = out-map _ _ _ _ _ _ _ _ (c .before .before .before .before .before .before .before .before .before .before .before .before .before .before .before .before .before .read-header .ensures .0) (c .before .before .before .before .before .before .before .before .before .before .before .before .before .before .before .before .before-index .ensures) (c .before .before .before .before .before .before .before .before .before .before .before .before .before .before .before .if1 .left) (c .before .before .before .before .before .before .before .before .before .before .before .before .before .gather-index .ensures .0) (not-false _ (c .before .before .before .before .before .before .before .before .before .before .if2 .left)) (index-is _ _ _ (area-passed _ _ _ _ (c .before .before .before .before .before .before .before .before .before .before .before .before .before .before .before .before .before .read-header .ensures .1 .0) (sym (c .before .before .before .before .before .before .before .before .before .before .before .before .before .before .before .before .before-index .ensures) ∙ (c .before .before .before .before .before .before .before .before .before .before .before .before .before .before .before .if1 .left))) (c .before .before .before .before .before .before .before .before .before .before .before .before .before .gather-index .ensures .0) (not-false _ (c .before .before .before .before .before .before .before .before .before .before .if2 .left)) (c .before .before .before .before .before .before .before .before .before .before .before .before .before .gather-index .ensures .1) (c .before .before .before .before .before .before .before .before .part .ensures) (c .before .before .before .before .before .before .before .read-index .ensures .0)) (c .before .before .before .before .before .before .if3 .left) (c .before .before .before .before .before .free-list-ok .ensures) (not-false _ (c .before .before .before .before .if4 .left)) (map-is _ _ _ (area-passed _ _ _ _ (c .before .before .before .before .before .before .before .before .before .before .before .before .before .before .before .before .before .read-header .ensures .1 .0) (sym (c .before .before .before .before .before .before .before .before .before .before .before .before .before .before .before .before .before-index .ensures) ∙ (c .before .before .before .before .before .before .before .before .before .before .before .before .before .before .before .if1 .left))) (c .before .before .before .before .before .before .before .before .before .before .before .before .before .gather-index .ensures .0) (not-false _ (c .before .before .before .before .before .before .before .before .before .before .if2 .left)) (c .before .before .before .before .before .before .before .before .before .before .before .before .before .gather-index .ensures .1) (c .before .before .before .before .before .before .before .before .part .ensures) _ _ _ (c .before .before .map-fits .ensures)) (not-true _ (c .before .if5 .taken)) (c .refuse5 .ensures)
-
-returns-6 : tie.Need-returns-6
-returns-6 c = accepted _ _ _ _ _ _ _ _ (c .before .before .before .before .before .before .before .before .before .before .before .before .before .before .before .before .before .before .read-header .ensures .0) (c .before .before .before .before .before .before .before .before .before .before .before .before .before .before .before .before .before .before-index .ensures) (c .before .before .before .before .before .before .before .before .before .before .before .before .before .before .before .before .if1 .left) (c .before .before .before .before .before .before .before .before .before .before .before .before .before .before .gather-index .ensures .0) (not-false _ (c .before .before .before .before .before .before .before .before .before .before .before .if2 .left)) (index-is _ _ _ (area-passed _ _ _ _ (c .before .before .before .before .before .before .before .before .before .before .before .before .before .before .before .before .before .before .read-header .ensures .1 .0) (sym (c .before .before .before .before .before .before .before .before .before .before .before .before .before .before .before .before .before .before-index .ensures) ∙ (c .before .before .before .before .before .before .before .before .before .before .before .before .before .before .before .before .if1 .left))) (c .before .before .before .before .before .before .before .before .before .before .before .before .before .before .gather-index .ensures .0) (not-false _ (c .before .before .before .before .before .before .before .before .before .before .before .if2 .left)) (c .before .before .before .before .before .before .before .before .before .before .before .before .before .before .gather-index .ensures .1) (c .before .before .before .before .before .before .before .before .before .part .ensures) (c .before .before .before .before .before .before .before .before .read-index .ensures .0)) (c .before .before .before .before .before .before .before .if3 .left) (c .before .before .before .before .before .before .free-list-ok .ensures) (not-false _ (c .before .before .before .before .before .if4 .left)) (map-is _ _ _ (area-passed _ _ _ _ (c .before .before .before .before .before .before .before .before .before .before .before .before .before .before .before .before .before .before .read-header .ensures .1 .0) (sym (c .before .before .before .before .before .before .before .before .before .before .before .before .before .before .before .before .before .before-index .ensures) ∙ (c .before .before .before .before .before .before .before .before .before .before .before .before .before .before .before .before .if1 .left))) (c .before .before .before .before .before .before .before .before .before .before .before .before .before .before .gather-index .ensures .0) (not-false _ (c .before .before .before .before .before .before .before .before .before .before .before .if2 .left)) (c .before .before .before .before .before .before .before .before .before .before .before .before .before .before .gather-index .ensures .1) (c .before .before .before .before .before .before .before .before .before .part .ensures) _ _ _ (c .before .before .before .map-fits .ensures)) (not-false _ (c .before .before .if5 .left)) refl (room-holds _ _ _ (area-passed _ _ _ _ (c .before .before .before .before .before .before .before .before .before .before .before .before .before .before .before .before .before .before .read-header .ensures .1 .0) (sym (c .before .before .before .before .before .before .before .before .before .before .before .before .before .before .before .before .before .before-index .ensures) ∙ (c .before .before .before .before .before .before .before .before .before .before .before .before .before .before .before .before .if1 .left))) (c .before .before .before .before .before .before .before .before .before .before .before .before .before .before .gather-index .ensures .0) (not-false _ (c .before .before .before .before .before .before .before .before .before .before .before .if2 .left)) (c .before .before .before .before .before .before .before .before .before .before .before .before .before .before .gather-index .ensures .1) (c .before .before .before .before .before .before .before .before .before .part .ensures))
-
-returns-7 : tie.Need-returns-7
-returns-7 c = accepted _ _ _ _ _ _ _ _ (c .before .before .before .before .before .before .before .before .before .before .before .before .before .before .before .before .before .before .read-header .ensures .0) (c .before .before .before .before .before .before .before .before .before .before .before .before .before .before .before .before .before .before-index .ensures) (c .before .before .before .before .before .before .before .before .before .before .before .before .before .before .before .before .if1 .left) (c .before .before .before .before .before .before .before .before .before .before .before .before .before .before .gather-index .ensures .0) (not-false _ (c .before .before .before .before .before .before .before .before .before .before .before .if2 .left)) (index-is _ _ _ (area-passed _ _ _ _ (c .before .before .before .before .before .before .before .before .before .before .before .before .before .before .before .before .before .before .read-header .ensures .1 .0) (sym (c .before .before .before .before .before .before .before .before .before .before .before .before .before .before .before .before .before .before-index .ensures) ∙ (c .before .before .before .before .before .before .before .before .before .before .before .before .before .before .before .before .if1 .left))) (c .before .before .before .before .before .before .before .before .before .before .before .before .before .before .gather-index .ensures .0) (not-false _ (c .before .before .before .before .before .before .before .before .before .before .before .if2 .left)) (c .before .before .before .before .before .before .before .before .before .before .before .before .before .before .gather-index .ensures .1) (c .before .before .before .before .before .before .before .before .before .part .ensures) (c .before .before .before .before .before .before .before .before .read-index .ensures .0)) (c .before .before .before .before .before .before .before .if3 .left) (c .before .before .before .before .before .before .free-list-ok .ensures) (not-false _ (c .before .before .before .before .before .if4 .left)) (map-is _ _ _ (area-passed _ _ _ _ (c .before .before .before .before .before .before .before .before .before .before .before .before .before .before .before .before .before .before .read-header .ensures .1 .0) (sym (c .before .before .before .before .before .before .before .before .before .before .before .before .before .before .before .before .before .before-index .ensures) ∙ (c .before .before .before .before .before .before .before .before .before .before .before .before .before .before .before .before .if1 .left))) (c .before .before .before .before .before .before .before .before .before .before .before .before .before .before .gather-index .ensures .0) (not-false _ (c .before .before .before .before .before .before .before .before .before .before .before .if2 .left)) (c .before .before .before .before .before .before .before .before .before .before .before .before .before .before .gather-index .ensures .1) (c .before .before .before .before .before .before .before .before .before .part .ensures) _ _ _ (c .before .before .before .map-fits .ensures)) (not-false _ (c .before .before .if5 .left)) (no-such-set _ _ _ (c .before .before .before .before .before .before .before .before .read-index .ensures .0) (c .no-set .ensures) (c .before .if6 .left)) (room-holds _ _ _ (area-passed _ _ _ _ (c .before .before .before .before .before .before .before .before .before .before .before .before .before .before .before .before .before .before .read-header .ensures .1 .0) (sym (c .before .before .before .before .before .before .before .before .before .before .before .before .before .before .before .before .before .before-index .ensures) ∙ (c .before .before .before .before .before .before .before .before .before .before .before .before .before .before .before .before .if1 .left))) (c .before .before .before .before .before .before .before .before .before .before .before .before .before .before .gather-index .ensures .0) (not-false _ (c .before .before .before .before .before .before .before .before .before .before .before .if2 .left)) (c .before .before .before .before .before .before .before .before .before .before .before .before .before .before .gather-index .ensures .1) (c .before .before .before .before .before .before .before .before .before .part .ensures))
+returns-5 c = out-map _ _ _ _ _ _ _ _ (c .before .before .before .before .before .before .before .before .before .before .before .before .before .before .before .read-header .ensures .0) (c .before .before .before .before .before .before .before .before .before .before .before .before .before .before .before-index .ensures) (c .before .before .before .before .before .before .before .before .before .before .before .before .before .if1 .left) (c .before .before .before .before .before .before .before .before .before .before .before .gather-index .ensures .0) (not-false _ (c .before .before .before .before .before .before .before .before .if2 .left)) (index-is _ _ _ (area-passed _ _ _ _ (c .before .before .before .before .before .before .before .before .before .before .before .before .before .before .before .read-header .ensures .1 .0) (sym (c .before .before .before .before .before .before .before .before .before .before .before .before .before .before .before-index .ensures) ∙ (c .before .before .before .before .before .before .before .before .before .before .before .before .before .if1 .left))) (c .before .before .before .before .before .before .before .before .before .before .before .gather-index .ensures .0) (not-false _ (c .before .before .before .before .before .before .before .before .if2 .left)) (c .before .before .before .before .before .before .before .before .before .before .before .gather-index .ensures .1) (c .before .before .before .before .before .before .part .ensures) (c .before .before .before .before .before .read-index .ensures .0)) (c .before .before .before .before .if3 .left) (c .before .before .before .free-list-ok .ensures) (not-false _ (c .before .before .if4 .left)) (map-is _ _ _ (area-passed _ _ _ _ (c .before .before .before .before .before .before .before .before .before .before .before .before .before .before .before .read-header .ensures .1 .0) (sym (c .before .before .before .before .before .before .before .before .before .before .before .before .before .before .before-index .ensures) ∙ (c .before .before .before .before .before .before .before .before .before .before .before .before .before .if1 .left))) (c .before .before .before .before .before .before .before .before .before .before .before .gather-index .ensures .0) (not-false _ (c .before .before .before .before .before .before .before .before .if2 .left)) (c .before .before .before .before .before .before .before .before .before .before .before .gather-index .ensures .1) (c .before .before .before .before .before .before .part .ensures) _ _ _ refl) (c .check-map .ensures) (room-holds _ _ _ (area-passed _ _ _ _ (c .before .before .before .before .before .before .before .before .before .before .before .before .before .before .before .read-header .ensures .1 .0) (sym (c .before .before .before .before .before .before .before .before .before .before .before .before .before .before .before-index .ensures) ∙ (c .before .before .before .before .before .before .before .before .before .before .before .before .before .if1 .left))) (c .before .before .before .before .before .before .before .before .before .before .before .gather-index .ensures .0) (not-false _ (c .before .before .before .before .before .before .before .before .if2 .left)) (c .before .before .before .before .before .before .before .before .before .before .before .gather-index .ensures .1) (c .before .before .before .before .before .before .part .ensures))
 
 pub check-spec : {M : Type 1} → statement M
 check-spec =
@@ -58,14 +52,6 @@ check-spec =
     free
     (λ c. search needs)
     returns-4
-    map-fits-requires
-    free
+    check-map-requires
     (λ c. search needs)
-    returns-5
-    (λ c. search needs)
-    (λ c. search needs)
-    (λ c. search needs)
-    returns-6
-    free
-    (λ c. search needs)
-    returns-7)
+    returns-5)
