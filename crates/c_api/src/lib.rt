@@ -139,6 +139,30 @@ pub extern "C" fn hv_plan(
     c_values::answer(a.refused as u64, &values, out)
 }
 
+// A place: first bit and bit count.
+fn answer_place(table: &[u8], file: &[u8], q: Question, room: &mut [u8], out: &mut [u64]) -> u64
+    ensures { λ r. ⌜ (r ≡ orShort (placeNumbers (answerOf (now (table .entry)) (now (file .entry)) q (length (now (room .entry))))) (now (out .entry)) (answerOf (now (table .entry)) (now (file .entry)) q (length (now (room .entry))) .refused)) × (now (out .exit) ≡ written (placeNumbers (answerOf (now (table .entry)) (now (file .entry)) q (length (now (room .entry))))) (now (out .entry))) × (now (room .exit) ≡ roomLeft 2 (now (out .entry)) (now (room .entry)) (roomAfter (now (table .entry)) (now (file .entry)) q (length (now (room .entry))))) ⌝ }
+{
+    if out.len() < 2 {
+        return 255;
+    }
+    let a = lookup_ask::ask(table, file, q, room);
+    let values = [a.first as u64, a.count as u64];
+    c_values::answer(a.refused as u64, &values, out)
+}
+
+// A view: the start and the length of the cell's part of the file, in bytes.
+fn answer_view(table: &[u8], file: &[u8], q: Question, room: &mut [u8], out: &mut [u64]) -> u64
+    ensures { λ r. ⌜ (r ≡ orShort (viewNumbers (answerOf (now (table .entry)) (now (file .entry)) q (length (now (room .entry))))) (now (out .entry)) (answerOf (now (table .entry)) (now (file .entry)) q (length (now (room .entry))) .refused)) × (now (out .exit) ≡ written (viewNumbers (answerOf (now (table .entry)) (now (file .entry)) q (length (now (room .entry))))) (now (out .entry))) × (now (room .exit) ≡ roomLeft 2 (now (out .entry)) (now (room .entry)) (roomAfter (now (table .entry)) (now (file .entry)) q (length (now (room .entry))))) ⌝ }
+{
+    if out.len() < 2 {
+        return 255;
+    }
+    let a = lookup_ask::ask(table, file, q, room);
+    let values = [(a.first / 8) as u64, (a.count / 8) as u64];
+    c_values::answer(a.refused as u64, &values, out)
+}
+
 // Place, of a row and a position: first bit and bit count, 2 numbers.
 #[no_mangle]
 pub extern "C" fn hv_place(
@@ -151,7 +175,7 @@ pub extern "C" fn hv_place(
 ) -> u64
     ensures { λ r. ⌜ (r ≡ orShort (placeNumbers (answerOf (now (table .entry)) (now (file .entry)) (Question.Place row position) (length (now (room .entry))))) (now (out .entry)) (answerOf (now (table .entry)) (now (file .entry)) (Question.Place row position) (length (now (room .entry))) .refused)) × (now (out .exit) ≡ written (placeNumbers (answerOf (now (table .entry)) (now (file .entry)) (Question.Place row position) (length (now (room .entry))))) (now (out .entry))) × (now (room .exit) ≡ roomLeft 2 (now (out .entry)) (now (room .entry)) (roomAfter (now (table .entry)) (now (file .entry)) (Question.Place row position) (length (now (room .entry))))) ⌝ }
 {
-    c_cells::answer_place(
+    answer_place(
         table,
         file,
         Question::Place(row as usize, position as usize),
@@ -176,7 +200,7 @@ pub extern "C" fn hv_place_planned(
         return 255;
     }
     let p = c_values::plan_from(plan);
-    c_cells::answer_place(
+    answer_place(
         table,
         file,
         Question::PlacePlanned(row as usize, p),
@@ -197,7 +221,7 @@ pub extern "C" fn hv_view(
 ) -> u64
     ensures { λ r. ⌜ (r ≡ orShort (viewNumbers (answerOf (now (table .entry)) (now (file .entry)) (Question.View row position) (length (now (room .entry))))) (now (out .entry)) (answerOf (now (table .entry)) (now (file .entry)) (Question.View row position) (length (now (room .entry))) .refused)) × (now (out .exit) ≡ written (viewNumbers (answerOf (now (table .entry)) (now (file .entry)) (Question.View row position) (length (now (room .entry))))) (now (out .entry))) × (now (room .exit) ≡ roomLeft 2 (now (out .entry)) (now (room .entry)) (roomAfter (now (table .entry)) (now (file .entry)) (Question.View row position) (length (now (room .entry))))) ⌝ }
 {
-    c_cells::answer_view(
+    answer_view(
         table,
         file,
         Question::View(row as usize, position as usize),
@@ -222,7 +246,7 @@ pub extern "C" fn hv_view_planned(
         return 255;
     }
     let p = c_values::plan_from(plan);
-    c_cells::answer_view(
+    answer_view(
         table,
         file,
         Question::ViewPlanned(row as usize, p),

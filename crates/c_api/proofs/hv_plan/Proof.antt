@@ -3,7 +3,7 @@ use mathlib.Core.Path.{refl}
 use native.Mathlib.Omega.{arith}
 use borrow.Author.Needs.{needs}
 use Rattle.bytes_at.proofs.Stepped.{free}
-use Rattle.c_values.proofs.Laws.{short, asked}
+use Rattle.c_api.proofs.Laws.{short, asked}
 use Rattle.c_api.proofs.hv_plan.Statement.{statement}
 use Rattle.c_api.proofs.hv_plan.Tie as tie
 

@@ -2,7 +2,7 @@
 use native.Mathlib.Omega.{arith}
 use borrow.Author.Needs.{needs}
 use Rattle.bytes_at.proofs.Stepped.{free}
-use Rattle.c_values.proofs.Laws.{unplanned, planned}
+use Rattle.c_api.proofs.Laws.{unplanned, planned}
 use Rattle.c_api.proofs.hv_view_planned.Statement.{statement}
 use Rattle.c_api.proofs.hv_view_planned.Tie as tie
 

@@ -1,12 +1,12 @@
--- `c_cells::answer_view` meets its contract: nothing is asked where `out` is too short, else its calls compose as the definition
+-- `c_api::answer_view` meets its contract: nothing is asked where `out` is too short, else its calls compose as the definition
 -- says.
 use mathlib.Core.Path.{refl}
 use native.Mathlib.Omega.{arith}
 use borrow.Author.Needs.{needs}
 use Rattle.bytes_at.proofs.Stepped.{free}
-use Rattle.c_values.proofs.Laws.{short, asked}
-use Rattle.c_cells.proofs.answer_view.Statement.{statement}
-use Rattle.c_cells.proofs.answer_view.Tie as tie
+use Rattle.c_api.proofs.Laws.{short, asked}
+use Rattle.c_api.proofs.answer_view.Statement.{statement}
+use Rattle.c_api.proofs.answer_view.Tie as tie
 
 returns : tie.Need-returns
 returns c = short 2 _ _ _ _ _ refl (omega arith)
