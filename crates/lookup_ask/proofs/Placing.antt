@@ -7,10 +7,10 @@ use lib.Dec.{T}
 use lib.ListN.{length, getD}
 use borrow.Author.Tests.{eq-eqb}
 use Rattle.bytes_at.specs.declared.Width.the-variants.{Four}
-use Rattle.bytes_at.proofs.Stages.{then-left, then-right, or-passed}
+use Rattle.bytes_at.proofs.Stages.{then-left, then-right}
 use Rattle.table.specs.declared.Description.{Description}
 use Rattle.cell_map.specs.Map.{columnAt, setAt, noSet as noMapSet}
-use Rattle.cell_map.specs.Fits.{fits, covers}
+use Rattle.cell_map.specs.Fits.{covers}
 use Rattle.cell_map.specs.Demand.{Kept}
 use Rattle.cell_map.proofs.Checked.{accepted, set-covers}
 use Rattle.standard_text.specs.Header.{headerAt}

@@ -14,7 +14,7 @@ use Rattle.column_set.specs.declared.Binding.{Binding}
 use Rattle.column_set.specs.ColumnSet.{noBinding}
 use Rattle.table.specs.declared.Description.{Description}
 use Rattle.cell_map.specs.Map.{Column as MapColumn}
-use Rattle.standard_rules.specs.Rules.{columnOf, columnsFrom, columnsOf}
+use Rattle.standard_rules.specs.Rules.{columnOf, columnsFrom}
 use Rattle.standard_columns.specs.Columns.{columnBy, columnsBy}
 use Rattle.standard_columns.proofs.Listed.{listed, listed-same, filled, filled-none, filled-more, filled-at}
 use Rattle.standard_columns.proofs.Facts.{columns-listed}

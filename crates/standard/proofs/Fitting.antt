@@ -1,5 +1,5 @@
 -- The map's test in the groups in which the code decides it, and the ways out. Assumes nothing.
-use mathlib.Core.Path.{_≡_, refl, sym, ap, _∙_}
+use mathlib.Core.Path.{_≡_, refl, sym, _∙_}
 use mathlib.Core.Bool.{Bool, true, false, _&&_}
 use mathlib.Core.List.{List}
 use Prim.Native.Nat.{ℕ, _≤_}
@@ -8,7 +8,7 @@ use lib.ListN.{length, getD, List·getD-eq-default}
 use Rattle.buckets.specs.Chain.{links}
 use Rattle.cell_map.specs.Tests.{all, allFrom, pairs}
 use Rattle.cell_map.specs.Map.{Map, Column as MapColumn}
-use Rattle.cell_map.specs.Fits.{setFits, countFits, setKnown, inBucket, clear, dataOf, extents, below, unlike, used, fits}
+use Rattle.cell_map.specs.Fits.{setFits, countFits, setKnown, inBucket, clear, extents, below, unlike, used, fits}
 use Rattle.standard_text.specs.declared.Header.{Header}
 use Rattle.standard_text.specs.declared.Set.{Set}
 use Rattle.standard_rules.specs.declared.Checked.{Checked}

@@ -1,7 +1,7 @@
 -- The loop that puts the numbers of the sets into lists, and the sets of a map by position. Assumes nothing.
 use mathlib.Core.Path.{_≡_, refl, sym, ap, _∙_}
 use mathlib.Core.Bool.{Bool, true, false, _&&_}
-use mathlib.Core.List.{List, [], _∷_, _++_, map}
+use mathlib.Core.List.{List, _∷_, map}
 use Prim.Native.Nat.{ℕ, zero, suc, _+_, _*_, _≤_, _<_, zero-le}
 use native.Mathlib.Decide.{decLt}
 use native.Mathlib.Omega.{arith}
@@ -17,7 +17,7 @@ use Rattle.standard_text.specs.declared.Set.{Set}
 use Rattle.standard_text.specs.Index.{noSet, SetInside}
 use Rattle.standard_rules.specs.Rules.{setOf, setsFrom}
 use Rattle.standard_sets.specs.Sets.{rowsFit, dataBy}
-use Rattle.standard_columns.specs.Columns.{countsFit, extentBy, extentsBy}
+use Rattle.standard_columns.specs.Columns.{countsFit, extentsBy}
 use Rattle.standard_columns.proofs.Listed.{listed, listed-length, listed-at, filled, filled-none, filled-more, filled-at, filled-past}
 use Rattle.standard_columns.proofs.Facts.{extents-same}
 
