@@ -1,11 +1,7 @@
 -- The small file of document 01, sixteen bytes a line, and the file of its case L.
-use Prim.Native.Nat.{ℕ, zero, suc, _/_, _%_, _^_}
-use mathlib.Core.List.{List, [], _∷_, _++_}
-
--- the n bytes of a number, the highest first
-abbrev pub row : ℕ → ℕ → List ℕ
-row zero x = []
-row (suc n) x = (x / 256 ^ n) % 256 ∷ row n x
+use Prim.Native.Nat.{ℕ}
+use mathlib.Core.List.{List, _++_}
+use Rattle.bytes_at.specs.Number.{bigBytes as row}
 
 -- table.dat: 7 rows; SCAN Int at 0, FLAG Bool at 16, TIME double at 17
 abbrev pub tableDat : List ℕ

@@ -4,7 +4,6 @@ use mathlib.Core.Bool.{Bool, true, false, _&&_, not}
 use mathlib.Core.List.{List}
 use Prim.Native.Nat.{ℕ}
 use native.Mathlib.Decide.{ℕ-discrete}
-use native.Mathlib.Omega.{arith}
 use lib.Dec.{eqb}
 use lib.ListN.{length, replicate}
 use borrow.Author.Tests.{eq-eqb, ne-eqb}
@@ -15,10 +14,8 @@ use Rattle.standard_rules.specs.Rules.{textOf}
 use Rattle.lookup_rules.specs.declared.Question.{Question}
 use Rattle.lookup_rules.specs.declared.Staged.{Staged}
 use Rattle.lookup_rules.specs.Questions.{stagesOf, roomAfter}
+use Rattle.lookup_stages.proofs.Laws.{false-true}
 use Rattle.lookup_ask.specs.Answering.{keepsText, settled}
-
-false-true : false ≡ true → ⊥
-false-true h = let n : _≡_ {A = ℕ} 0 1 = cc in omega arith
 
 -- what is kept is not refused, and is a StandardStMan's
 kept-first : (n : ℕ) (i : Bool) → eqb n 0 && not i ≡ true → n ≡ 0

@@ -32,7 +32,7 @@ use Rattle.lookup_rules.proofs.Described.{described}
 use Rattle.lookup_parts.specs.Taken.{Taken}
 use Rattle.lookup_stages.specs.Stages.{Reached}
 
-false-true : false ≡ true → ⊥
+pub false-true : false ≡ true → ⊥
 false-true h = let n : _≡_ {A = ℕ} 0 1 = cc in omega arith
 
 -- the stages after the file's check
