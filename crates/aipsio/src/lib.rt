@@ -308,13 +308,13 @@ pub fn name(s: &[u8], c: Cursor, expected: &[u8]) -> Cursor
     if refused != 0 {
         return found.next;
     }
-    if bytes_at::is_at(s, found.start, found.len, expected) {
+    if text_at::is_at(s, found.start, found.len, expected) {
         return found.next;
     }
     refuse(found.next, c.at, 2)
 }
 
-// The same of a name that the source has, given as `bytes_at::is_text` takes it.
+// The same of a name that the source has, given as `text_at::is_text` takes it.
 pub fn text_name(s: &[u8], c: Cursor, n: usize, first: usize, last: usize) -> Cursor
     requires { ⌜ Joins (endOf n) n first last ⌝ }
     ensures { λ r. ⌜ r ≡ nameAt (now (s .entry)) c (textOf n first last) ⌝ }
@@ -324,7 +324,7 @@ pub fn text_name(s: &[u8], c: Cursor, n: usize, first: usize, last: usize) -> Cu
     if refused != 0 {
         return found.next;
     }
-    if bytes_at::is_text(s, found.start, found.len, n, first, last) {
+    if text_at::is_text(s, found.start, found.len, n, first, last) {
         return found.next;
     }
     refuse(found.next, c.at, 2)

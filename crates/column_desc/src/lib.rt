@@ -288,7 +288,7 @@ fn first_named(s: &[u8], starts: &[usize; 64], lens: &[usize; 64], n: usize, nam
 {
     let mut i = 0;
     while i < n {
-        if bytes_at::is_at(s, starts[i], lens[i], name) {
+        if text_at::is_at(s, starts[i], lens[i], name) {
             return i;
         }
         i += 1;

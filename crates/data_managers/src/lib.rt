@@ -49,7 +49,7 @@ pub fn kind_of(name: &[u8]) -> Kind
     ensures { λ r. ⌜ r ≡ kindOf (now (name .entry)) ⌝ }
 {
     // StandardStMan
-    if bytes_at::is_long_text(
+    if text_at::is_long_text(
         name,
         0,
         name.len(),
@@ -60,7 +60,7 @@ pub fn kind_of(name: &[u8]) -> Kind
         return Kind::Standard;
     }
     // IncrementalStMan
-    if bytes_at::is_long_text(
+    if text_at::is_long_text(
         name,
         0,
         name.len(),

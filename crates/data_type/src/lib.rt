@@ -184,10 +184,10 @@ impl DataType {
     {
         let name = self.name();
         let len = self.name_len();
-        if bytes_at::same(s, &name[..len]) {
+        if text_at::same(s, &name[..len]) {
             return true;
         }
-        bytes_at::same(s, &name)
+        text_at::same(s, &name)
     }
 
     // The place of the one type whose name the bytes can be. The fourth letter tells the names apart, and the first uChar
@@ -259,7 +259,7 @@ fn is_scalar(s: &[u8]) -> bool
         return false;
     }
     // ScalarColumnDesc
-    if bytes_at::is_long_text(s, 0, 16, 16, 0x5363616c6172436f, 0x6c756d6e44657363) {
+    if text_at::is_long_text(s, 0, 16, 16, 0x5363616c6172436f, 0x6c756d6e44657363) {
         return s[16] == b'<';
     }
     false
@@ -269,7 +269,7 @@ fn is_scalar(s: &[u8]) -> bool
 fn is_array(s: &[u8]) -> bool
     ensures { λ r. ⌜ r ≡ sameBytes (take 16 (now (s .entry))) (bytes "ArrayColumnDesc<") ⌝ }
 {
-    bytes_at::is_long_text(s, 0, 16, 16, 0x4172726179436f6c, 0x756d6e446573633c)
+    text_at::is_long_text(s, 0, 16, 16, 0x4172726179436f6c, 0x756d6e446573633c)
 }
 
 // What a column type string says: ScalarColumnDesc<T or ArrayColumnDesc<T.

@@ -163,7 +163,7 @@ pub fn column_by_name(s: &[u8], name: &[u8]) -> Position
     let mut i = 0;
     while i < n {
         let c = columns[i];
-        if bytes_at::is_at(s, c.start, c.len, name) {
+        if text_at::is_at(s, c.start, c.len, name) {
             return Position::At(i);
         }
         i += 1;

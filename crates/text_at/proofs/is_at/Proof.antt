@@ -1,10 +1,10 @@
--- `bytes_at::is_at` meets its contract: a part of another length is not the bytes given.
+-- `text_at::is_at` meets its contract: a part of another length is not the bytes given.
 use mathlib.Core.Path.{refl}
 use borrow.Author.Needs.{needs}
 use denote.Ref.{now}
 use Rattle.bytes_at.proofs.Parts.{held-not, held-same}
-use Rattle.bytes_at.proofs.is_at.Statement.{statement}
-use Rattle.bytes_at.proofs.is_at.Tie as tie
+use Rattle.text_at.proofs.is_at.Statement.{statement}
+use Rattle.text_at.proofs.is_at.Tie as tie
 
 returns : tie.Need-returns
 returns c = let a = c .before .before .before .before .args in held-not (now (a .s)) (a .start) (a .len) (now (a .expected)) (c .before .part-len .ensures .0) refl (c .if1 .taken)

@@ -1,15 +1,15 @@
--- `bytes_at::many_at` meets its contract. The loop's invariant: the first i bytes are the same.
+-- `text_at::many_at` meets its contract. The loop's invariant: the first i bytes are the same.
 use native.Mathlib.Omega.{arith}
 use Prim.Native.Nat.{_+_, _-_}
 use borrow.Author.Needs.{needs}
 use denote.Ref.{now}
 use lib.ListN.{length, take, drop}
 use mathlib.Core.Path.{_≡_}
 use Rattle.bytes_at.proofs.Numbers.{part-number, part-bytes}
 use Rattle.bytes_at.proofs.Parts.{part-length}
 use Rattle.bytes_at.proofs.Eights.{Alike, alike-none, alike-not, alike-more, alike-last}
-use Rattle.bytes_at.proofs.many_at.Statement.{statement}
-use Rattle.bytes_at.proofs.many_at.Tie as tie
+use Rattle.text_at.proofs.many_at.Statement.{statement}
+use Rattle.text_at.proofs.many_at.Tie as tie
 
 abbrev Inv-loop : tie.InvT-loop
 Inv-loop s start expected last i₀ i = (last + 8 ≡ length expected) × (Alike (take (length expected) (drop start s)) expected i)

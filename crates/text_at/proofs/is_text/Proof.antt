@@ -1,11 +1,11 @@
--- `bytes_at::is_text` meets its contract: a part of another length is not the text.
+-- `text_at::is_text` meets its contract: a part of another length is not the text.
 use borrow.Author.Needs.{needs}
 use borrow.Author.Tests.{lt-leb, le-leb}
 use denote.Ref.{now}
 use Rattle.bytes_at.proofs.Eights.{text-length}
 use Rattle.bytes_at.proofs.Parts.{held-not, held-same}
-use Rattle.bytes_at.proofs.is_text.Statement.{statement}
-use Rattle.bytes_at.proofs.is_text.Tie as tie
+use Rattle.text_at.proofs.is_text.Statement.{statement}
+use Rattle.text_at.proofs.is_text.Tie as tie
 
 returns : tie.Need-returns
 returns c = let a = c .before .before .before .args in held-not (now (a .s)) (a .start) (a .len) _ (c .before .part-len .ensures .0) (text-length (c .before .before .before .pre)) (c .if1 .taken)

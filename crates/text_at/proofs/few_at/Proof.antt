@@ -1,11 +1,11 @@
--- `bytes_at::few_at` meets its contract. The loop's invariant: what is left to compare decides.
+-- `text_at::few_at` meets its contract. The loop's invariant: what is left to compare decides.
 use native.Mathlib.Omega.{arith}
 use Rattle.bytes_at.proofs.Parts.{Left, left-all, left-more, left-not, left-none}
 use lib.ListN.{length}
 use Prim.Native.Nat.{_-_}
 use borrow.Author.Needs.{needs}
-use Rattle.bytes_at.proofs.few_at.Statement.{statement}
-use Rattle.bytes_at.proofs.few_at.Tie as tie
+use Rattle.text_at.proofs.few_at.Statement.{statement}
+use Rattle.text_at.proofs.few_at.Tie as tie
 
 abbrev Inv-loop : tie.InvT-loop
 Inv-loop s start expected i₀ i = Left s start expected i

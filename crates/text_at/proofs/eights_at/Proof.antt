@@ -1,13 +1,13 @@
--- `bytes_at::eights_at` meets its contract: the first eight bytes and the last eight are compared.
+-- `text_at::eights_at` meets its contract: the first eight bytes and the last eight are compared.
 use Prim.Native.Nat.{_-_}
 use borrow.Author.Needs.{needs}
 use native.Mathlib.Omega.{arith}
 use denote.Ref.{now}
 use Rattle.bytes_at.proofs.Numbers.{part-number, part-first, part-bytes}
 use Rattle.bytes_at.proofs.Parts.{part-length}
 use Rattle.bytes_at.proofs.Eights.{text-not, text-last}
-use Rattle.bytes_at.proofs.eights_at.Statement.{statement}
-use Rattle.bytes_at.proofs.eights_at.Tie as tie
+use Rattle.text_at.proofs.eights_at.Statement.{statement}
+use Rattle.text_at.proofs.eights_at.Tie as tie
 
 returns : tie.Need-returns
 returns c =

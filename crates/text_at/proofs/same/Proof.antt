@@ -1,9 +1,9 @@
--- `bytes_at::same` meets its contract: the whole of a slice is a part of it.
+-- `text_at::same` meets its contract: the whole of a slice is a part of it.
 use mathlib.Core.Path.{_∙_}
 use lib.Seq.{take-length}
 use borrow.Author.Needs.{needs}
-use Rattle.bytes_at.proofs.same.Statement.{statement}
-use Rattle.bytes_at.proofs.same.Tie as tie
+use Rattle.text_at.proofs.same.Statement.{statement}
+use Rattle.text_at.proofs.same.Tie as tie
 
 returns : tie.Need-returns
 returns c = c .is-at .ensures ∙ rw take-length

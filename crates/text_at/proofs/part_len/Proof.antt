@@ -1,10 +1,10 @@
--- `bytes_at::part_len` meets its contract: the lesser of what is asked for and what is there.
+-- `text_at::part_len` meets its contract: the lesser of what is asked for and what is there.
 use native.Mathlib.Omega.{arith}
 use borrow.Author.Needs.{needs}
 use denote.Ref.{now}
 use Rattle.bytes_at.proofs.Parts.{all-held, len-held}
-use Rattle.bytes_at.proofs.part_len.Statement.{statement}
-use Rattle.bytes_at.proofs.part_len.Tie as tie
+use Rattle.text_at.proofs.part_len.Statement.{statement}
+use Rattle.text_at.proofs.part_len.Tie as tie
 
 returns : tie.Need-returns
 returns c = let a = c .before .before .before .args in (all-held (now (a .s)) (a .start) (a .len) (c .before .minus .ensures) (omega arith), omega arith)

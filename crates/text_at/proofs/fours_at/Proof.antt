@@ -1,13 +1,13 @@
--- `bytes_at::fours_at` meets its contract: the first four bytes and the last four are compared.
+-- `text_at::fours_at` meets its contract: the first four bytes and the last four are compared.
 use Prim.Native.Nat.{_-_}
 use borrow.Author.Needs.{needs}
 use native.Mathlib.Omega.{arith}
 use denote.Ref.{now}
 use Rattle.bytes_at.proofs.Numbers.{part-number, part-first, part-bytes}
 use Rattle.bytes_at.proofs.Parts.{part-length}
 use Rattle.bytes_at.proofs.Eights.{text-not, text-last}
-use Rattle.bytes_at.proofs.fours_at.Statement.{statement}
-use Rattle.bytes_at.proofs.fours_at.Tie as tie
+use Rattle.text_at.proofs.fours_at.Statement.{statement}
+use Rattle.text_at.proofs.fours_at.Tie as tie
 
 returns : tie.Need-returns
 returns c =
