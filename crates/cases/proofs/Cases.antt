@@ -16,7 +16,8 @@ use Rattle.bytes_at.specs.Stages.{_▷_, orNo}
 use Rattle.aipsio.specs.declared.Cursor.{Cursor}
 use Rattle.aipsio.specs.Field.{skipped, skippedEach, judged, settled, sizedAt, uintAt, rangedAt, agreed, markAt, textBefore, textAt, stringAt, nameAt}
 use Rattle.aipsio_objects.specs.Object.{entered, opened, closed, passed, recordAt, blockAt, mapAt, ipositionAt, axisInto, axesAt, shapeAt}
-use Rattle.data_type.specs.DataTypes.{placeOf, nameOf, withNumber, withName, columnTypeOf, cellBits}
+use Rattle.data_type.specs.DataTypes.{placeOf, nameOf, withNumber, withName}
+use Rattle.column_types.specs.ColumnTypes.{columnTypeOf, cellBits}
 use Rattle.column_desc.specs.ColumnDesc.{typeAt, headAt, notesAt, optionsAt, dimensionsAt, elementsAt, layoutAt, defaultAt, tailAt, columnAt, blank, isNamed, firstNamed, columnInto, columnsAt}
 use Rattle.data_managers.specs.DataManagers.{kindOf, headAt as setHeadAt, firstNumber, noManager, managerInto, managersAt}
 use Rattle.column_set.specs.ColumnSet.{sequenceAt, ownShapeAt, noOwner, ownerInto, ownersAt, infoInto, infosAt, noBinding, bindingOf, bindingAt, bindingsAt}

@@ -12,7 +12,7 @@ use Rattle.aipsio.specs.declared.Cursor.{Cursor}
 use Rattle.aipsio.specs.declared.Value.{Value}
 use Rattle.aipsio.specs.Field.{skipped, judged, settled, uintAt, numberAt, versionAt, codeAt, flagAt, stringAt}
 use Rattle.aipsio_objects.specs.Object.{recordAt, ipositionAt, shapeAt}
-use Rattle.data_type.specs.DataTypes.{columnTypeOf, cellBits}
+use Rattle.column_types.specs.ColumnTypes.{columnTypeOf, cellBits}
 use Rattle.column_desc.specs.declared.Column.{Column}
 use Rattle.column_desc.specs.declared.Columns.{Columns}
 use Rattle.column_desc.specs.declared.TypeRead.{TypeRead}

@@ -79,7 +79,7 @@ fn read_type(s: &[u8], c: Cursor) -> TypeRead
     ensures { λ r. ⌜ r ≡ typeAt (now (s .entry)) c ⌝ }
 {
     let t = aipsio::string(s, c, 0, 4096);
-    let k = data_type::column_type(bytes_at::part(s, t.start, t.len));
+    let k = column_types::column_type(bytes_at::part(s, t.start, t.len));
     let d = aipsio::judge(t.next, c.at, k.known, 5);
     let datatype = k.datatype;
     TypeRead {
@@ -241,7 +241,7 @@ fn read_column(s: &[u8], head: Head, c: Cursor) -> ColumnRead
     let notes = skip_notes(s, c);
     let layout = read_layout(s, notes, array, number);
     let maximum = read_tail(s, layout.next, array, size);
-    let bits = data_type::cell_bits(
+    let bits = column_types::cell_bits(
         datatype,
         array,
         layout.options,

@@ -3,5 +3,4 @@ pub mod Cases
 pub mod Table
 pub mod Names
 pub mod Place
-pub mod Bits
 pub mod Facts

@@ -1,15 +1,14 @@
--- Document 01, "table.dat": the data types, column types and the bits of a cell.
-use Prim.Native.Nat.{ℕ, _+_, _*_, _%_}
+-- Document 01, "table.dat": the data types.
+use Prim.Native.Nat.{ℕ}
 use mathlib.Core.List.{List, [], _∷_, _++_}
-use mathlib.Core.Bool.{Bool, true, false, cond, _||_}
-use lib.ListN.{take, drop, getD}
+use mathlib.Core.Bool.{Bool, cond, _||_}
+use lib.ListN.{take, getD}
 use lib.Dec.{eqb, ltb}
 use Rattle.bytes_at.specs.Bytes.{bytes, sameBytes}
 use Rattle.bytes_at.specs.First.{firstBelow}
 use Rattle.data_type.specs.declared.DataType.{DataType}
 use Rattle.data_type.specs.declared.Known.{Known}
 use Rattle.data_type.specs.declared.Known.the-variants.{Of as Is, Nothing}
-use Rattle.data_type.specs.declared.ColumnType.{ColumnType}
 
 abbrev of : ℕ → ℕ → DataType
 of number bits = record { number = number; bits = bits }
@@ -55,24 +54,3 @@ withNumber n = knownAt (placeOf n)
 -- the type of a name
 unfoldable pub withName : List ℕ → Known
 withName s = knownAt (firstBelow (λ (i : ℕ). isName s (nameOf (typeAt i))) 12)
-
-abbrev pub typed : Bool → Known → ColumnType
-typed array (Is t) = record { known = true; array = array; datatype = t }
-typed array Nothing = record { known = false; array = array; datatype = of 0 1 }
-
--- "ScalarColumnDesc<T and ArrayColumnDesc<T, no closing bracket"
-unfoldable pub columnTypeOf : List ℕ → ColumnType
-columnTypeOf s =
-    cond (sameBytes (take 17 s) (bytes "ScalarColumnDesc<"))
-    (typed false (withName (drop 17 s)))
-    (cond (sameBytes (take 16 s) (bytes "ArrayColumnDesc<"))
-    (typed true (withName (drop 16 s)))
-    (typed false Nothing))
-
--- "Cell bits: scalars and direct arrays, elements x size x 8, a Bool element being one bit; String scalar, maximum x 8 if
--- above 0, else 96; direct String array 96; other arrays 64." An odd option is direct.
-unfoldable pub cellBits : DataType → Bool → ℕ → ℕ → ℕ → ℕ
-cellBits t array options elements maximum =
-    cond array
-    (cond (eqb (options % 2) 0) 64 (cond (eqb (t .bits) 0) 96 (elements * t .bits)))
-    (cond (eqb (t .bits) 0) (cond (eqb maximum 0) 96 (maximum * 8)) (elements * t .bits))

@@ -2,19 +2,8 @@
 ghost use mathlib.Core.Path.{_≡_};
 ghost use mathlib.Core.Bool.{true};
 ghost use Prim.Native.Nat.{ℕ, _≤_, _<_};
-ghost use lib.ListN.{length, take};
-ghost use Rattle.bytes_at.specs.Bytes.{bytes, sameBytes};
-ghost use Rattle.data_type.specs.DataTypes.{
-  typeAt,
-  nameOf,
-  filled,
-  isName,
-  withNumber,
-  withName,
-  columnTypeOf,
-  typed,
-  cellBits,
-};
+ghost use lib.ListN.{length};
+ghost use Rattle.data_type.specs.DataTypes.{typeAt, nameOf, filled, isName, withNumber, withName};
 
 // A data type: its number in Casacore's DataType.h, and the bits of an element, 0 for a String, whose size is its cell's.
 pub struct DataType {
@@ -26,13 +15,6 @@ pub struct DataType {
 pub enum Known {
     Of(DataType),
     Nothing,
-}
-
-// What a column type string says: whether it is one, whether the cells are arrays, and the type of an element.
-pub struct ColumnType {
-    pub known: bool,
-    pub array: bool,
-    pub datatype: DataType,
 }
 
 impl DataType {
@@ -157,6 +139,13 @@ impl DataType {
         }
     }
 
+    // The bits of an element; 0 for a String.
+    pub fn element_bits(self) -> usize
+        ensures { λ r. ⌜ (r ≡ self .bits) × (r < 256) ⌝ }
+    {
+        self.bits as usize
+    }
+
     // The type of a number.
     pub fn from_number(n: usize) -> Known
         ensures { λ r. ⌜ r ≡ withNumber n ⌝ }
@@ -229,83 +218,4 @@ impl DataType {
         }
         Known::Nothing
     }
-}
-
-fn column_type_of(array: bool, k: Known) -> ColumnType
-    ensures { λ r. ⌜ r ≡ typed array k ⌝ }
-{
-    match k {
-        Known::Of(t) => ColumnType {
-            known: true,
-            array: array,
-            datatype: t,
-        },
-        Known::Nothing => {
-            let t = DataType::BOOL;
-            ColumnType {
-                known: false,
-                array: array,
-                datatype: t,
-            }
-        }
-    }
-}
-
-// Whether the bytes begin with ScalarColumnDesc<.
-fn is_scalar(s: &[u8]) -> bool
-    ensures { λ r. ⌜ r ≡ sameBytes (take 17 (now (s .entry))) (bytes "ScalarColumnDesc<") ⌝ }
-{
-    if s.len() < 17 {
-        return false;
-    }
-    // ScalarColumnDesc
-    if text_at::is_long_text(s, 0, 16, 16, 0x5363616c6172436f, 0x6c756d6e44657363) {
-        return s[16] == b'<';
-    }
-    false
-}
-
-// Whether the bytes begin with ArrayColumnDesc<.
-fn is_array(s: &[u8]) -> bool
-    ensures { λ r. ⌜ r ≡ sameBytes (take 16 (now (s .entry))) (bytes "ArrayColumnDesc<") ⌝ }
-{
-    text_at::is_long_text(s, 0, 16, 16, 0x4172726179436f6c, 0x756d6e446573633c)
-}
-
-// What a column type string says: ScalarColumnDesc<T or ArrayColumnDesc<T.
-pub fn column_type(s: &[u8]) -> ColumnType
-    ensures { λ r. ⌜ r ≡ columnTypeOf (now (s .entry)) ⌝ }
-{
-    if is_scalar(s) {
-        return column_type_of(false, DataType::from_name(bytes_at::rest(s, 17)));
-    }
-    if is_array(s) {
-        return column_type_of(true, DataType::from_name(bytes_at::rest(s, 16)));
-    }
-    column_type_of(false, Known::Nothing)
-}
-
-// The bits of a cell.
-pub fn cell_bits(t: DataType, array: bool, options: usize, elements: usize, maximum: usize) -> usize
-    requires { ⌜ (elements ≤ 1048576) × (maximum ≤ 65536) ⌝ }
-    ensures { λ r. ⌜ r ≡ cellBits t array options elements maximum ⌝ }
-    ensures bounded { λ r. ⌜ r < 4294967296 ⌝ }
-{
-    let bits = t.bits as usize;
-    if array {
-        if options % 2 == 0 {
-            return 64;
-        }
-        if bits == 0 {
-            return 96;
-        }
-        return elements * bits;
-    }
-    if bits != 0 {
-        return elements * bits;
-    }
-    if maximum == 0 {
-        return 96;
-    }
-    maximum * 8
 }

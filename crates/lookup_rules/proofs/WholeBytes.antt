@@ -16,8 +16,9 @@ use Rattle.aipsio.specs.declared.Cursor.{Cursor}
 use Rattle.aipsio.specs.Field.{judged}
 use Rattle.data_type.specs.declared.DataType.{DataType}
 use Rattle.data_type.specs.declared.Known.the-variants.{Of as Is, Nothing}
-use Rattle.data_type.specs.declared.ColumnType.{ColumnType}
-use Rattle.data_type.specs.DataTypes.{typeAt, nameOf, isName, typed, knownAt, withName, columnTypeOf, cellBits}
+use Rattle.column_types.specs.declared.ColumnType.{ColumnType}
+use Rattle.data_type.specs.DataTypes.{typeAt, nameOf, isName, knownAt, withName}
+use Rattle.column_types.specs.ColumnTypes.{typed, columnTypeOf, cellBits}
 use Rattle.column_desc.specs.declared.Column.{Column}
 use Rattle.column_desc.specs.declared.Columns.{Columns}
 use Rattle.column_desc.specs.declared.Head.{Head}

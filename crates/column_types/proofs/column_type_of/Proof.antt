@@ -1,7 +1,7 @@
--- `data_type::column_type_of` meets its contract: by cases.
+-- `column_types::column_type_of` meets its contract: by cases.
 use borrow.Author.Needs.{needs}
-use Rattle.data_type.proofs.column_type_of.Statement.{statement}
-use Rattle.data_type.proofs.column_type_of.Tie as tie
+use Rattle.column_types.proofs.column_type_of.Statement.{statement}
+use Rattle.column_types.proofs.column_type_of.Tie as tie
 
 pub column-type-of-spec : {M : Type 1} → statement M
 column-type-of-spec =

@@ -1,11 +1,11 @@
--- `data_type::is_scalar` meets its contract: sixteen bytes are compared, then the last.
+-- `column_types::is_scalar` meets its contract: sixteen bytes are compared, then the last.
 use native.Mathlib.Omega.{arith}
 use borrow.Author.Needs.{needs}
 use denote.Ref.{now}
 use Rattle.bytes_at.specs.Bytes.{bytes}
 use Rattle.data_type.proofs.Names.{too-short, one-byte, split-on, split-out}
-use Rattle.data_type.proofs.is_scalar.Statement.{statement}
-use Rattle.data_type.proofs.is_scalar.Tie as tie
+use Rattle.column_types.proofs.is_scalar.Statement.{statement}
+use Rattle.column_types.proofs.is_scalar.Tie as tie
 
 returns : tie.Need-returns
 returns c = too-short (bytes "ScalarColumnDesc<") (now (c .before .before .args .s)) (omega arith)
