@@ -18,7 +18,8 @@ use Rattle.aipsio.specs.Field.{skipped, skippedEach, judged, settled, sizedAt, 
 use Rattle.aipsio_objects.specs.Object.{entered, opened, closed, passed, recordAt, blockAt, mapAt, ipositionAt, axisInto, axesAt, shapeAt}
 use Rattle.data_type.specs.DataTypes.{placeOf, nameOf, withNumber, withName}
 use Rattle.column_types.specs.ColumnTypes.{columnTypeOf, cellBits}
-use Rattle.column_desc.specs.ColumnDesc.{typeAt, headAt, notesAt, optionsAt, dimensionsAt, elementsAt, layoutAt, defaultAt, tailAt, columnAt, blank, isNamed, firstNamed, columnInto, columnsAt}
+use Rattle.column_desc.specs.ColumnDesc.{typeAt, headAt, columnAt, blank, isNamed, firstNamed, columnInto, columnsAt}
+use Rattle.column_layout.specs.ColumnLayout.{notesAt, optionsAt, dimensionsAt, elementsAt, layoutAt, defaultAt, tailAt}
 use Rattle.data_managers.specs.DataManagers.{kindOf, headAt as setHeadAt, firstNumber, noManager, managerInto, managersAt}
 use Rattle.column_set.specs.ColumnSet.{sequenceAt, ownShapeAt, noOwner, ownerInto, ownersAt, infoInto, infosAt, noBinding, bindingOf, bindingAt, bindingsAt}
 use Rattle.table.specs.Table.{headAt as tableHeadAt, descHeadAt, refusedWith, describedAs}

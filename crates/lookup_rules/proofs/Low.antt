@@ -22,7 +22,8 @@ use Rattle.aipsio_objects.specs.Object.{entered, opened, closed, passed, record
 use Rattle.aipsio.proofs.Kept.{text-next}
 use Rattle.column_desc.specs.declared.Head.{Head}
 use Rattle.column_desc.specs.declared.Columns.{Columns}
-use Rattle.column_desc.specs.ColumnDesc.{typeAt, headAt, notesAt, optionsAt, dimensionsAt, elementsAt, layoutAt, defaultAt, tailAt, columnAt, columnInto, columnsAt}
+use Rattle.column_desc.specs.ColumnDesc.{typeAt, headAt, columnAt, columnInto, columnsAt}
+use Rattle.column_layout.specs.ColumnLayout.{notesAt, optionsAt, dimensionsAt, elementsAt, layoutAt, defaultAt, tailAt}
 use Rattle.data_managers.specs.declared.Managers.{Managers}
 use Rattle.column_set.specs.declared.Owners.{Owners}
 use Rattle.column_set.specs.declared.Infos.{Infos}

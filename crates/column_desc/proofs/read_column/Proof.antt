@@ -11,7 +11,7 @@ unfolding columnAt
 returns c =
     via _ (c .before .before .before .before .before .before .before .skip-notes .ensures) (
     via _ (c .before .before .before .before .before .before .read-layout .ensures .0) (
-    via _ (c .before .before .before .before .before .read-tail .ensures .0) (
+    via _ (rw (c .before .before .before .before .before .before .before .before .element-bits .ensures .0) at (c .before .before .before .before .before .read-tail .ensures .0)) (
     via _ (c .before .before .before .before .cell-bits .ensures .0) (
     refl))))
 

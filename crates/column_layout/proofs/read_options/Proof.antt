@@ -1,9 +1,9 @@
--- `column_desc::read_options` meets its contract: its calls compose as the definition says.
+-- `column_layout::read_options` meets its contract: its calls compose as the definition says.
 use native.Mathlib.Omega.{arith}
 use Rattle.bytes_at.proofs.Stepped.{via, free}
-use Rattle.column_desc.specs.ColumnDesc.{optionsAt}
-use Rattle.column_desc.proofs.read_options.Statement.{statement}
-use Rattle.column_desc.proofs.read_options.Tie as tie
+use Rattle.column_layout.specs.ColumnLayout.{optionsAt}
+use Rattle.column_layout.proofs.read_options.Statement.{statement}
+use Rattle.column_layout.proofs.read_options.Tie as tie
 
 returns : tie.Need-returns
 unfolding optionsAt

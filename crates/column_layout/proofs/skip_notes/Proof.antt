@@ -1,9 +1,9 @@
--- `column_desc::skip_notes` meets its contract: its calls compose as the definition says.
+-- `column_layout::skip_notes` meets its contract: its calls compose as the definition says.
 use mathlib.Core.Path.{refl}
 use Rattle.bytes_at.proofs.Stepped.{via, free}
-use Rattle.column_desc.specs.ColumnDesc.{notesAt}
-use Rattle.column_desc.proofs.skip_notes.Statement.{statement}
-use Rattle.column_desc.proofs.skip_notes.Tie as tie
+use Rattle.column_layout.specs.ColumnLayout.{notesAt}
+use Rattle.column_layout.proofs.skip_notes.Statement.{statement}
+use Rattle.column_layout.proofs.skip_notes.Tie as tie
 
 returns : tie.Need-returns
 unfolding notesAt

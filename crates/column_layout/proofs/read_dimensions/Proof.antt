@@ -1,8 +1,8 @@
--- `column_desc::read_dimensions` meets its contract: its calls compose as the definition says.
+-- `column_layout::read_dimensions` meets its contract: its calls compose as the definition says.
 use Rattle.bytes_at.proofs.Stepped.{via, free}
-use Rattle.column_desc.specs.ColumnDesc.{dimensionsAt}
-use Rattle.column_desc.proofs.read_dimensions.Statement.{statement}
-use Rattle.column_desc.proofs.read_dimensions.Tie as tie
+use Rattle.column_layout.specs.ColumnLayout.{dimensionsAt}
+use Rattle.column_layout.proofs.read_dimensions.Statement.{statement}
+use Rattle.column_layout.proofs.read_dimensions.Tie as tie
 
 returns : tie.Need-returns
 unfolding dimensionsAt

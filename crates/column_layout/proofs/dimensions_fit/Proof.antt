@@ -1,7 +1,7 @@
--- `column_desc::dimensions_fit` meets its contract: a case for each way out.
+-- `column_layout::dimensions_fit` meets its contract: a case for each way out.
 use borrow.Author.Tests.{eq-eqb, ne-eqb}
-use Rattle.column_desc.proofs.dimensions_fit.Statement.{statement}
-use Rattle.column_desc.proofs.dimensions_fit.Tie as tie
+use Rattle.column_layout.proofs.dimensions_fit.Statement.{statement}
+use Rattle.column_layout.proofs.dimensions_fit.Tie as tie
 
 pub dimensions-fit-spec : {M : Type 1} → statement M
 dimensions-fit-spec =

@@ -1,7 +1,7 @@
--- `column_desc::options_fit` meets its contract: a case for each way out.
+-- `column_layout::options_fit` meets its contract: a case for each way out.
 use borrow.Author.Tests.{eq-eqb, ne-eqb}
-use Rattle.column_desc.proofs.options_fit.Statement.{statement}
-use Rattle.column_desc.proofs.options_fit.Tie as tie
+use Rattle.column_layout.proofs.options_fit.Statement.{statement}
+use Rattle.column_layout.proofs.options_fit.Tie as tie
 
 pub options-fit-spec : {M : Type 1} → statement M
 options-fit-spec =

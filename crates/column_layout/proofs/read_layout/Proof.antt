@@ -1,9 +1,9 @@
--- `column_desc::read_layout` meets its contract: its calls compose as the definition says.
+-- `column_layout::read_layout` meets its contract: its calls compose as the definition says.
 use mathlib.Core.Path.{refl}
 use Rattle.bytes_at.proofs.Stepped.{via, free}
-use Rattle.column_desc.specs.ColumnDesc.{layoutAt}
-use Rattle.column_desc.proofs.read_layout.Statement.{statement}
-use Rattle.column_desc.proofs.read_layout.Tie as tie
+use Rattle.column_layout.specs.ColumnLayout.{layoutAt}
+use Rattle.column_layout.proofs.read_layout.Statement.{statement}
+use Rattle.column_layout.proofs.read_layout.Tie as tie
 
 returns : tie.Need-returns
 unfolding layoutAt

@@ -1,9 +1,9 @@
--- `column_desc::read_tail` meets its contract: its calls compose as the definition says.
+-- `column_layout::read_tail` meets its contract: its calls compose as the definition says.
 use native.Mathlib.Omega.{arith}
 use Rattle.bytes_at.proofs.Stepped.{via, free}
-use Rattle.column_desc.specs.ColumnDesc.{tailAt}
-use Rattle.column_desc.proofs.read_tail.Statement.{statement}
-use Rattle.column_desc.proofs.read_tail.Tie as tie
+use Rattle.column_layout.specs.ColumnLayout.{tailAt}
+use Rattle.column_layout.proofs.read_tail.Statement.{statement}
+use Rattle.column_layout.proofs.read_tail.Tie as tie
 
 returns : tie.Need-returns
 unfolding tailAt

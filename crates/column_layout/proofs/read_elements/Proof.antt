@@ -1,10 +1,10 @@
--- `column_desc::read_elements` meets its contract: a case for each way out.
+-- `column_layout::read_elements` meets its contract: a case for each way out.
 use native.Mathlib.Omega.{arith}
 use borrow.Author.Tests.{le-leb, lt-leb}
 use Rattle.bytes_at.proofs.Stepped.{via, free}
-use Rattle.column_desc.specs.ColumnDesc.{elementsAt}
-use Rattle.column_desc.proofs.read_elements.Statement.{statement}
-use Rattle.column_desc.proofs.read_elements.Tie as tie
+use Rattle.column_layout.specs.ColumnLayout.{elementsAt}
+use Rattle.column_layout.proofs.read_elements.Statement.{statement}
+use Rattle.column_layout.proofs.read_elements.Tie as tie
 
 pub read-elements-spec : {M : Type 1} → statement M
 unfolding elementsAt

@@ -1,12 +1,12 @@
--- `column_desc::skip_default` meets its contract: a case for each way out.
+-- `column_layout::skip_default` meets its contract: a case for each way out.
 use mathlib.Core.Path.{ap}
 use borrow.Author.Tests.{eq-eqb, ne-eqb}
 use Rattle.aipsio.specs.declared.Value.{Value}
 use Rattle.aipsio.specs.declared.Text.{Text}
 use Rattle.bytes_at.proofs.Stepped.{free}
-use Rattle.column_desc.specs.ColumnDesc.{defaultAt}
-use Rattle.column_desc.proofs.skip_default.Statement.{statement}
-use Rattle.column_desc.proofs.skip_default.Tie as tie
+use Rattle.column_layout.specs.ColumnLayout.{defaultAt}
+use Rattle.column_layout.proofs.skip_default.Statement.{statement}
+use Rattle.column_layout.proofs.skip_default.Tie as tie
 
 pub skip-default-spec : {M : Type 1} → statement M
 unfolding defaultAt
