@@ -21,7 +21,8 @@ use Rattle.column_types.specs.ColumnTypes.{columnTypeOf, cellBits}
 use Rattle.column_desc.specs.ColumnDesc.{typeAt, headAt, columnAt, blank, isNamed, firstNamed, columnInto, columnsAt}
 use Rattle.column_layout.specs.ColumnLayout.{notesAt, optionsAt, dimensionsAt, elementsAt, layoutAt, defaultAt, tailAt}
 use Rattle.data_managers.specs.DataManagers.{kindOf, headAt as setHeadAt, firstNumber, noManager, managerInto, managersAt}
-use Rattle.column_set.specs.ColumnSet.{sequenceAt, ownShapeAt, noOwner, ownerInto, ownersAt, infoInto, infosAt, noBinding, bindingOf, bindingAt, bindingsAt}
+use Rattle.column_set.specs.ColumnSet.{infoInto, infosAt, noBinding, bindingOf, bindingAt, bindingsAt}
+use Rattle.column_info.specs.ColumnInfo.{sequenceAt, ownShapeAt, noOwner, ownerInto, ownersAt}
 use Rattle.table.specs.Table.{headAt as tableHeadAt, descHeadAt, refusedWith, describedAs}
 use Rattle.buckets.specs.Chain.{links, chainOk, chainText, chainHolds, offsetOk, indexOk, indexText, freeOk}
 use Rattle.cell_map.specs.Tests.{all, allFrom, pairs}

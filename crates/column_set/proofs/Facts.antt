@@ -9,9 +9,10 @@ use Rattle.aipsio.specs.declared.Cursor.{Cursor}
 use Rattle.aipsio.specs.Field.{flagAt}
 use Rattle.aipsio.proofs.Kept.{Keeps, keeps-same, after-keeps, judged-keeps, uint-reads, ranged-reads, any-string-reads, string-reads, _⨟_}
 use Rattle.aipsio_objects.proofs.Kept.{iposition-keeps}
-use Rattle.column_set.specs.declared.Owners.{Owners}
+use Rattle.column_info.specs.declared.Owners.{Owners}
 use Rattle.column_set.specs.declared.Infos.{Infos}
-use Rattle.column_set.specs.ColumnSet.{sequenceAt, ownShapeAt, ownerInto, ownersAt, infoInto, infosAt}
+use Rattle.column_set.specs.ColumnSet.{infoInto, infosAt}
+use Rattle.column_info.specs.ColumnInfo.{sequenceAt, ownShapeAt, ownerInto, ownersAt}
 
 cond-keeps : (b : Bool) {c d e : Cursor} → Keeps c d → Keeps c e → Keeps c (cond b d e)
 cond-keeps true k l = k

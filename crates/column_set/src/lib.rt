@@ -1,10 +1,11 @@
 // The binding of a table's columns to its data managers (document 01, "table.dat"; Note 260, 3.1.2: ColumnInfo, DMInfo).
 ghost use mathlib.Core.Path.{_≡_};
-ghost use Prim.Native.Nat.{ℕ, _+_, _≤_, _<_};
+ghost use Prim.Native.Nat.{ℕ, _≤_};
 ghost use mathlib.Core.Bool.{false};
-ghost use lib.ListN.{length, getD, set};
-ghost use Rattle.column_set.specs.ColumnSet.{sequenceAt, ownShapeAt, noOwner, ownersAt, lengthFits, infosAt, noBinding, bindingOf, bindingsAt};
+ghost use lib.ListN.{getD};
+ghost use Rattle.column_set.specs.ColumnSet.{lengthFits, infosAt, noBinding, bindingOf, bindingsAt};
 use aipsio::Cursor;
+use column_info::Owner;
 
 // Where a column is kept: its manager's sequence number and, of the two kinds, what DMInfo gives for it.
 pub struct Binding {
@@ -13,74 +14,10 @@ pub struct Binding {
     pub offset: u32,
 }
 
-// A column's sequence number, whose field begins at `from`.
-pub struct Sequence {
-    pub value: usize,
-    pub from: usize,
-    pub next: Cursor,
-}
-
-// A column's sequence number, the position of the manager that has it, and how many earlier columns that manager has.
-pub struct Owner {
-    pub sequence: u32,
-    pub manager: u32,
-    pub rank: u32,
-}
-
-// The owners of the columns in stored order, how many columns each manager has, and the cursor past ColumnInfo.
-pub struct Owners {
-    pub owners: [Owner; 64],
-    pub next: Cursor,
-    pub counts: [usize; 16],
-}
-
 // Where each manager's DMInfo begins, past its length, and the cursor past all of them.
 pub struct Infos {
     pub starts: [usize; 16],
     pub next: Cursor,
-}
-
-// ColumnInfo up to the sequence number: version 2, original name, version 1.
-fn read_sequence(s: &[u8], c: Cursor) -> Sequence
-    ensures { λ r. ⌜ r ≡ sequenceAt (now (s .entry)) c ⌝ }
-    ensures bounded { λ r. ⌜ r .value < 4294967296 ⌝ }
-{
-    let v = aipsio::version(s, c, 2, 2);
-    let name = aipsio::string(s, v.next, 0, 4096);
-    let w = aipsio::version(s, name.next, 1, 1);
-    let q = aipsio::uint(s, w.next);
-    let next = q.next;
-    Sequence {
-        value: q.value,
-        from: w.next.at,
-        next: next,
-    }
-}
-
-// The rest of an array's ColumnInfo: whether it has a shape of its own, and that shape.
-fn skip_own_shape(s: &[u8], c: Cursor, array: bool) -> Cursor
-    ensures { λ r. ⌜ r ≡ ownShapeAt (now (s .entry)) c array ⌝ }
-{
-    if array {
-        let own = aipsio::flag(s, c);
-        let next = own.next;
-        if own.value == 0 {
-            return next;
-        }
-        return aipsio_objects::iposition(s, next);
-    }
-    c
-}
-
-// The number at a place of a list, 0 past its end.
-fn number_at(list: &[usize; 16], k: usize) -> usize
-    ensures { λ r. ⌜ r ≡ getD (now (list .entry)) k 0 ⌝ }
-{
-    let all = &list[..];
-    if k < all.len() {
-        return all[k];
-    }
-    0
 }
 
 // The flag at a place of a list, false past its end.
@@ -92,66 +29,6 @@ fn flag_at(list: &[bool; 16], k: usize) -> bool
         return all[k];
     }
     false
-}
-
-// One more at a place of a list of counts.
-fn one_more(counts: &mut [usize; 16], k: usize)
-    requires { ⌜ (length (now counts) ≡ 16) × ((j : ℕ) → getD (now counts) j 0 ≤ 64) ⌝ }
-    ensures { λ _. ⌜ now (counts .exit) ≡ set (now (counts .entry)) k (getD (now (counts .entry)) k 0 + 1) ⌝ }
-{
-    if k < 16 {
-        counts[k] = counts[k] + 1;
-    }
-}
-
-fn no_owner() -> Owner
-    ensures { λ r. ⌜ r ≡ noOwner ⌝ }
-{
-    Owner {
-        sequence: 0,
-        manager: 0,
-        rank: 0,
-    }
-}
-
-// ColumnInfo of n columns. A sequence number that none of m managers has: 6.
-pub fn read_owners(
-    s: &[u8],
-    c: Cursor,
-    arrays: [bool; 64],
-    n: usize,
-    numbers: [usize; 16],
-    m: usize,
-) -> Owners
-    requires { ⌜ (n ≤ 64) × (m ≤ 16) ⌝ }
-    ensures { λ r. ⌜ r ≡ ownersAt (now (s .entry)) c arrays n numbers m ⌝ }
-    ensures bounded { λ r. ⌜ ((k : ℕ) → getD (r .counts) k 0 ≤ 64) ⌝ }
-{
-    let none = no_owner();
-    let mut owners = [none; 64];
-    let mut counts = [0usize; 16];
-    let mut next = c;
-    let mut i = 0;
-    while i < n {
-        let array = arrays[i];
-        let q = read_sequence(s, next);
-        let k = data_managers::first_number(&numbers, m, q.value);
-        let d = aipsio::judge(q.next, q.from, k < m, 6);
-        let rank = number_at(&counts, k);
-        owners[i] = Owner {
-            sequence: q.value as u32,
-            manager: k as u32,
-            rank: rank as u32,
-        };
-        one_more(&mut counts, k);
-        next = skip_own_shape(s, d, array);
-        i += 1;
-    }
-    Owners {
-        owners: owners,
-        counts: counts,
-        next: next,
-    }
 }
 
 // DMInfo of the two kinds has 8 bytes for each column bound to its manager.
@@ -236,8 +113,8 @@ pub fn bind(
     while i < n {
         let owner = owners[i];
         let k = owner.manager as usize;
-        let count = number_at(&counts, k);
-        let start = number_at(&starts, k);
+        let count = column_info::number_at(&counts, k);
+        let start = column_info::number_at(&starts, k);
         let one = flag_at(&ours, k);
         let info = bytes_at::part(s, start, 8 * count);
         bindings[i] = read_binding(info, owner, one, count);

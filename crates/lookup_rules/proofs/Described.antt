@@ -11,7 +11,7 @@ use Rattle.bytes_at.specs.Steps.{_>>=_}
 use Rattle.aipsio.specs.declared.Cursor.{Cursor}
 use Rattle.aipsio.proofs.Bounds.{ranged-le}
 use Rattle.column_desc.specs.ColumnDesc.{blank, columnInto, noColumns, columnsAt}
-use Rattle.column_set.specs.declared.Owner.{Owner}
+use Rattle.column_info.specs.declared.Owner.{Owner}
 use Rattle.column_set.specs.ColumnSet.{noBinding, bindingsAt}
 use Rattle.table.specs.declared.Description.{Description}
 use Rattle.table.specs.Table.{headAt, descHeadAt, describedAs, refusedWith}

@@ -25,10 +25,11 @@ use Rattle.column_desc.specs.declared.Columns.{Columns}
 use Rattle.column_desc.specs.ColumnDesc.{typeAt, headAt, columnAt, columnInto, columnsAt}
 use Rattle.column_layout.specs.ColumnLayout.{notesAt, optionsAt, dimensionsAt, elementsAt, layoutAt, defaultAt, tailAt}
 use Rattle.data_managers.specs.declared.Managers.{Managers}
-use Rattle.column_set.specs.declared.Owners.{Owners}
+use Rattle.column_info.specs.declared.Owners.{Owners}
 use Rattle.column_set.specs.declared.Infos.{Infos}
 use Rattle.data_managers.specs.DataManagers.{headAt as setHeadAt, managerInto, managersAt}
-use Rattle.column_set.specs.ColumnSet.{sequenceAt, ownShapeAt, ownerInto, ownersAt, infoInto, infosAt}
+use Rattle.column_set.specs.ColumnSet.{infoInto, infosAt}
+use Rattle.column_info.specs.ColumnInfo.{sequenceAt, ownShapeAt, ownerInto, ownersAt}
 use Rattle.table.specs.Table.{wholeOf, headAt as tableHeadAt, descHeadAt, refusedWith, describedAs}
 use Rattle.standard_text.specs.declared.BucketFields.{BucketFields}
 use Rattle.standard_text.specs.declared.IndexFields.{IndexFields}

@@ -12,7 +12,8 @@ use Rattle.aipsio.specs.Field.{judged, numberAt, codeAt, markAt, nameAt, string
 use Rattle.aipsio_objects.specs.Object.{opened, closed, recordAt}
 use Rattle.column_desc.specs.ColumnDesc.{columnsAt, blank, firstNamed}
 use Rattle.data_managers.specs.DataManagers.{headAt as setHeadAt, managersAt, noManager}
-use Rattle.column_set.specs.ColumnSet.{ownersAt, infosAt, bindingsAt, noBinding}
+use Rattle.column_set.specs.ColumnSet.{infosAt, bindingsAt, noBinding}
+use Rattle.column_info.specs.ColumnInfo.{ownersAt}
 use Rattle.table.specs.declared.Description.{Description}
 use Rattle.table.specs.declared.Position.{Position}
 use Rattle.table.specs.declared.Position.the-variants.{At, Refused}

@@ -124,7 +124,7 @@ pub fn describe(s: &[u8]) -> Description
     let numbers = ms.numbers;
     let ours = ms.ours;
     let arrays = cs.arrays;
-    let os = column_set::read_owners(s, ms.next, arrays, n.count, numbers, set.count);
+    let os = column_info::read_owners(s, ms.next, arrays, n.count, numbers, set.count);
     let counts = os.counts;
     let is = column_set::read_infos(s, os.next, ours, counts, set.count);
     let d = aipsio_objects::close(is.next, m);

@@ -9,8 +9,9 @@ use Rattle.bytes_at.specs.Loop.{after}
 use Rattle.bytes_at.proofs.Loops.{after-none, after-more, after-all}
 use Rattle.bytes_at.proofs.Stepped.{via, free}
 use Rattle.column_set.specs.declared.Binding.{Binding}
-use Rattle.column_set.specs.ColumnSet.{noOwner, bindingAt, bindingsAt}
-use Rattle.column_set.proofs.Counts.{eight-fits}
+use Rattle.column_set.specs.ColumnSet.{bindingAt, bindingsAt}
+use Rattle.column_info.specs.ColumnInfo.{noOwner}
+use Rattle.column_info.proofs.Counts.{eight-fits}
 use Rattle.column_set.proofs.bind.Statement.{statement}
 use Rattle.column_set.proofs.bind.Tie as tie
 

@@ -1,10 +1,10 @@
--- `column_set::number_at` meets its contract, on either side of its test.
+-- `column_info::number_at` meets its contract, on either side of its test.
 use mathlib.Core.Path.{sym}
 use native.Mathlib.Omega.{arith}
 use borrow.Author.Needs.{needs}
 use lib.ListN.{List·getD-eq-default}
-use Rattle.column_set.proofs.number_at.Statement.{statement}
-use Rattle.column_set.proofs.number_at.Tie as tie
+use Rattle.column_info.proofs.number_at.Statement.{statement}
+use Rattle.column_info.proofs.number_at.Tie as tie
 
 pub number-at-spec : {M : Type 1} → statement M
 number-at-spec =

@@ -1,9 +1,9 @@
--- `column_set::read_sequence` meets its contract: its calls compose as the definition says, and a uInt is below 2^32.
+-- `column_info::read_sequence` meets its contract: its calls compose as the definition says, and a uInt is below 2^32.
 use mathlib.Core.Path.{refl}
 use Rattle.bytes_at.proofs.Stepped.{via, free}
-use Rattle.column_set.specs.ColumnSet.{sequenceAt}
-use Rattle.column_set.proofs.read_sequence.Statement.{statement}
-use Rattle.column_set.proofs.read_sequence.Tie as tie
+use Rattle.column_info.specs.ColumnInfo.{sequenceAt}
+use Rattle.column_info.proofs.read_sequence.Statement.{statement}
+use Rattle.column_info.proofs.read_sequence.Tie as tie
 
 returns : tie.Need-returns
 unfolding sequenceAt

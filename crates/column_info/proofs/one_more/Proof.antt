@@ -1,10 +1,10 @@
--- `column_set::one_more` meets its contract: a store past the end changes nothing.
+-- `column_info::one_more` meets its contract: a store past the end changes nothing.
 use mathlib.Core.Path.{sym}
 use native.Mathlib.Omega.{arith}
 use borrow.Author.Needs.{needs}
 use lib.Seq.{set-out}
-use Rattle.column_set.proofs.one_more.Statement.{statement}
-use Rattle.column_set.proofs.one_more.Tie as tie
+use Rattle.column_info.proofs.one_more.Statement.{statement}
+use Rattle.column_info.proofs.one_more.Tie as tie
 
 add-counts : tie.Need-add-counts
 add-counts c = omega (arith, c .before .before .pre .1 (c .before .before .args .k))

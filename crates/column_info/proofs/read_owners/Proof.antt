@@ -1,4 +1,4 @@
--- `column_set::read_owners` meets its contract. The loop's invariant: after i turns the state is the definition's after i turns,
+-- `column_info::read_owners` meets its contract. The loop's invariant: after i turns the state is the definition's after i turns,
 -- and there is a count for each of 16 managers.
 use mathlib.Core.Path.{_≡_, refl, ap, _∙_}
 use Prim.Native.Nat.{_≤_, _-_}
@@ -8,11 +8,11 @@ use lib.ListN.{length, length-set}
 use Rattle.bytes_at.specs.Loop.{after}
 use Rattle.bytes_at.proofs.Loops.{after-none, after-more, after-all}
 use Rattle.bytes_at.proofs.Stepped.{via, free}
-use Rattle.column_set.specs.declared.Owners.{Owners}
-use Rattle.column_set.specs.ColumnSet.{ownerInto, ownersAt}
-use Rattle.column_set.proofs.Counts.{zeros-le, counted}
-use Rattle.column_set.proofs.read_owners.Statement.{statement}
-use Rattle.column_set.proofs.read_owners.Tie as tie
+use Rattle.column_info.specs.declared.Owners.{Owners}
+use Rattle.column_info.specs.ColumnInfo.{ownerInto, ownersAt}
+use Rattle.column_info.proofs.Counts.{zeros-le, counted}
+use Rattle.column_info.proofs.read_owners.Statement.{statement}
+use Rattle.column_info.proofs.read_owners.Tie as tie
 
 abbrev Inv-loop : tie.InvT-loop
 Inv-loop s n m arrays numbers owners₀ counts₀ next₀ i₀ owners counts next i =

@@ -1,9 +1,9 @@
--- `column_set::skip_own_shape` meets its contract, in each branch.
+-- `column_info::skip_own_shape` meets its contract, in each branch.
 use borrow.Author.Tests.{eq-eqb, ne-eqb}
 use Rattle.bytes_at.proofs.Stepped.{via, free}
-use Rattle.column_set.specs.ColumnSet.{ownShapeAt}
-use Rattle.column_set.proofs.skip_own_shape.Statement.{statement}
-use Rattle.column_set.proofs.skip_own_shape.Tie as tie
+use Rattle.column_info.specs.ColumnInfo.{ownShapeAt}
+use Rattle.column_info.proofs.skip_own_shape.Statement.{statement}
+use Rattle.column_info.proofs.skip_own_shape.Tie as tie
 
 returns : tie.Need-returns
 unfolding ownShapeAt

@@ -11,9 +11,9 @@ use lib.ListN.{getD, set, replicate}
 use Rattle.bytes_at.specs.Loop.{after}
 use Rattle.bytes_at.specs.Steps.{_>>=_}
 use Rattle.aipsio.specs.declared.Cursor.{Cursor}
-use Rattle.column_set.specs.declared.Owners.{Owners}
+use Rattle.column_info.specs.declared.Owners.{Owners}
 use Rattle.data_managers.specs.DataManagers.{firstNumber}
-use Rattle.column_set.specs.ColumnSet.{sequenceAt, ownerInto, ownersAt}
+use Rattle.column_info.specs.ColumnInfo.{sequenceAt, ownerInto, ownersAt}
 
 -- no number of a list is above a bound
 abbrev pub AtMost : List ℕ → ℕ → Type 0
