@@ -30,7 +30,7 @@ use Rattle.cell_map.specs.Map.{entryOf}
 use Rattle.cell_map.specs.Fits.{covers, boundTo, dataOf, fits, inBucket, clear}
 use Rattle.row_index.specs.Numbers.{numbersAt}
 use Rattle.manager_file.specs.Start.{headerRoom}
-use Rattle.standard_text.specs.Header.{bucketFieldsAt, indexFieldsAt, headed, headerIn}
+use Rattle.standard_header.specs.Header.{bucketFieldsAt, indexFieldsAt, headed, headerIn}
 use Rattle.standard_text.specs.Index.{setAt, setInto, setsAt, indexed, indexIn}
 use Rattle.standard_rules.specs.Rules.{textOf, setsFrom, columnsFrom, mapOf, refusalOf, checkedAs}
 use Rattle.lookup_rules.specs.declared.Question.{Question}

@@ -23,7 +23,7 @@ use Rattle.cell_map.specs.Fits.{covers}
 use Rattle.cell_map.proofs.Tests.{is-true}
 use Rattle.row_index.specs.Numbers.{numbersAt}
 use Rattle.standard_text.specs.declared.Set.{Set}
-use Rattle.standard_text.specs.Header.{headerAt}
+use Rattle.standard_header.specs.Header.{headerAt}
 use Rattle.standard_text.specs.Index.{noSet, indexAt, SetInside}
 use Rattle.standard_rules.specs.Rules.{textOf, setOf, columnOf, mapOf, refusalOf, checkedAs}
 use Rattle.incremental_rules.specs.Rules.{checkedAs as incrementalAs}

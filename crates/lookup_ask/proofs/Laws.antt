@@ -9,7 +9,7 @@ use lib.ListN.{length, replicate}
 use borrow.Author.Tests.{eq-eqb, ne-eqb}
 use Rattle.table.specs.Table.{describedAs}
 use Rattle.buckets.specs.Chain.{padded}
-use Rattle.standard_text.specs.Header.{headerAt}
+use Rattle.standard_header.specs.Header.{headerAt}
 use Rattle.standard_rules.specs.Rules.{textOf}
 use Rattle.lookup_rules.specs.declared.Question.{Question}
 use Rattle.lookup_rules.specs.declared.Staged.{Staged}

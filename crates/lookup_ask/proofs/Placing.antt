@@ -13,11 +13,11 @@ use Rattle.cell_map.specs.Map.{columnAt, setAt, noSet as noMapSet}
 use Rattle.cell_map.specs.Fits.{covers}
 use Rattle.cell_map.specs.Demand.{Kept}
 use Rattle.cell_map.proofs.Checked.{accepted, set-covers}
-use Rattle.standard_text.specs.Header.{headerAt}
+use Rattle.standard_header.specs.Header.{headerAt}
 use Rattle.standard_text.specs.Index.{noSet, indexAt, SetInside}
 use Rattle.standard_text.proofs.IndexLaws.{index-inside}
 use Rattle.standard.proofs.Gathering.{sets-length, sets-at}
-use Rattle.standard_text.proofs.HeaderLaws.{header-bounds}
+use Rattle.standard_header.proofs.HeaderLaws.{header-bounds}
 use Rattle.lookup_rules.proofs.Places.{map-fits}
 use Rattle.standard_rules.specs.Rules.{textOf, setOf, mapOf, refusalOf, checkedAs}
 

@@ -31,11 +31,11 @@ use Rattle.data_managers.specs.DataManagers.{headAt as setHeadAt, managerInto, 
 use Rattle.column_set.specs.ColumnSet.{infoInto, infosAt}
 use Rattle.column_info.specs.ColumnInfo.{sequenceAt, ownShapeAt, ownerInto, ownersAt}
 use Rattle.table.specs.Table.{wholeOf, headAt as tableHeadAt, descHeadAt, refusedWith, describedAs}
-use Rattle.standard_text.specs.declared.BucketFields.{BucketFields}
-use Rattle.standard_text.specs.declared.IndexFields.{IndexFields}
+use Rattle.standard_header.specs.declared.BucketFields.{BucketFields}
+use Rattle.standard_header.specs.declared.IndexFields.{IndexFields}
 use Rattle.standard_text.specs.declared.Sets.{Sets}
 use Rattle.manager_file.specs.Start.{headerRoom}
-use Rattle.standard_text.specs.Header.{bucketFieldsAt, indexFieldsAt, headed, headerIn, headerAt}
+use Rattle.standard_header.specs.Header.{bucketFieldsAt, indexFieldsAt, headed, headerIn, headerAt}
 use Rattle.standard_text.specs.Index.{setAt, setInto, setsAt, indexed, indexIn, indexAt}
 use Rattle.incremental_text.specs.declared.HeaderFields.{HeaderFields}
 use Rattle.incremental_text.specs.declared.Index.{Index}

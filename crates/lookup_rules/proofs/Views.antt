@@ -20,7 +20,7 @@ use Rattle.table.specs.Table.{describedAs}
 use Rattle.cell_map.specs.Map.{Map, Bits, columnAt, placeOf, bucketIn, bucketStart, localRow}
 use Rattle.cell_map.proofs.Places.{every-two}
 use Rattle.manager_file.specs.Start.{longEnough}
-use Rattle.standard_text.specs.Header.{headerAt}
+use Rattle.standard_header.specs.Header.{headerAt}
 use Rattle.standard_rules.specs.Rules.{mapOf, refusalOf}
 use Rattle.incremental_text.specs.Header.{headerAt as incrementalHeader}
 use Rattle.incremental_rules.specs.Rules.{refusalOf as incrementalRefusal}

@@ -19,7 +19,7 @@ use Rattle.table.specs.Table.{describedAs}
 use Rattle.buckets.specs.Chain.{padded}
 use Rattle.cell_map.specs.Map.{Bits, placeOf}
 use Rattle.cell_map.specs.Fits.{ceil8}
-use Rattle.standard_text.specs.Header.{headerAt}
+use Rattle.standard_header.specs.Header.{headerAt}
 use Rattle.standard_text.specs.Index.{noSet}
 use Rattle.standard_rules.specs.declared.Checked.{Checked}
 use Rattle.standard_rules.specs.Rules.{textOf, mapOf, checkedAs}

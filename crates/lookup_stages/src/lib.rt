@@ -6,7 +6,7 @@ ghost use Prim.Native.Nat.{ℕ, _≤_, _<_};
 ghost use lib.ListN.{length};
 ghost use Rattle.table.specs.Table.{describedAs};
 ghost use Rattle.buckets.specs.Chain.{padded};
-ghost use Rattle.standard_text.specs.Header.{headerAt};
+ghost use Rattle.standard_header.specs.Header.{headerAt};
 ghost use Rattle.standard_rules.specs.Rules.{textOf};
 ghost use Rattle.lookup_rules.specs.Questions.{stagesOf};
 ghost use Rattle.lookup_stages.specs.Stages.{Reached};

@@ -14,9 +14,9 @@ use Rattle.buckets.proofs.Room.{index-long, padded-text}
 use Rattle.cell_map.specs.Map.{Column as MapColumn}
 use Rattle.cell_map.specs.Fits.{fits}
 use Rattle.table.specs.declared.Description.{Description}
-use Rattle.standard_text.specs.declared.Header.{Header}
+use Rattle.standard_header.specs.declared.Header.{Header}
 use Rattle.manager_file.specs.Start.{longEnough}
-use Rattle.standard_text.specs.Header.{headerAt, HeaderBounds}
+use Rattle.standard_header.specs.Header.{headerAt, HeaderBounds}
 use Rattle.standard_text.specs.declared.Set.{Set}
 use Rattle.standard_text.specs.declared.Index.{Index}
 use Rattle.standard_text.specs.Index.{noSet, indexAt}

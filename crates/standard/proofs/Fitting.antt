@@ -9,7 +9,7 @@ use Rattle.buckets.specs.Chain.{links}
 use Rattle.cell_map.specs.Tests.{all, allFrom, pairs}
 use Rattle.cell_map.specs.Map.{Map, Column as MapColumn}
 use Rattle.cell_map.specs.Fits.{setFits, countFits, setKnown, inBucket, clear, extents, below, unlike, used, fits}
-use Rattle.standard_text.specs.declared.Header.{Header}
+use Rattle.standard_header.specs.declared.Header.{Header}
 use Rattle.standard_text.specs.declared.Set.{Set}
 use Rattle.standard_rules.specs.declared.Checked.{Checked}
 use Rattle.standard_rules.specs.Rules.{setsFrom, mapWith}

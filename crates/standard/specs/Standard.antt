@@ -7,7 +7,7 @@ use lib.Dec.{leb}
 use Rattle.bytes_at.specs.Stages.{_▷_, orNo}
 use Rattle.table.specs.declared.Description.{Description}
 use Rattle.cell_map.specs.Map.{Column as MapColumn}
-use Rattle.standard_text.specs.declared.Header.{Header}
+use Rattle.standard_header.specs.declared.Header.{Header}
 use Rattle.standard_text.specs.declared.Set.{Set}
 use Rattle.manager_file.specs.Start.{longEnough}
 use Rattle.standard_text.specs.Index.{noSet}

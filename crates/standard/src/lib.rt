@@ -6,13 +6,13 @@ ghost use lib.ListN.{length, getD};
 ghost use Rattle.table.specs.declared.Description.{Description};
 ghost use Rattle.buckets.specs.Chain.{Area, padded};
 ghost use Rattle.cell_map.specs.Fits.{fits};
-ghost use Rattle.standard_text.specs.Header.{headerAt};
+ghost use Rattle.standard_header.specs.Header.{headerAt};
 ghost use Rattle.standard_text.specs.Index.{noSet, SetInside};
 ghost use Rattle.standard_rules.specs.Rules.{textOf, setsFrom, mapWith, checkedAs};
 ghost use Rattle.standard_columns.specs.Columns.{columnsBy};
 ghost use Rattle.standard.specs.Standard.{Given, mapped, beforeIndex, refusedFile};
+use standard_header::Header;
 use standard_rules::Checked;
-use standard_text::Header;
 use standard_text::Set;
 
 // A refused file: its number and zeros.
@@ -142,7 +142,7 @@ pub fn check(
     requires { ⌜ ((i : ℕ) → i < n → getD (now offsets) i 0 < 4294967296) × ((i : ℕ) → i < n → getD (now bits) i 0 < 4294967296) ⌝ }
     ensures { λ r. ⌜ ((d : Description) (sequence : ℕ) → Given d sequence rows big (columnsBy (now (kept .entry)) (now (owners .entry)) (now (offsets .entry)) (now (bits .entry)) n 0) → r ≡ checkedAs d sequence (now (f .entry)) refused k (length (now (room .entry)))) × (r .refused ≡ 0 → now (room .exit) ≡ padded (length (now (room .entry))) (textOf (now (f .entry)) (headerAt (now (f .entry)) big))) ⌝ }
 {
-    let h = standard_text::read_header(f, big);
+    let h = standard_header::read_header(f, big);
     let first = before_index(refused, h, f.len(), room.len());
     if first != 0 {
         return refuse(first);

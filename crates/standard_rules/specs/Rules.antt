@@ -14,10 +14,10 @@ use Rattle.buckets.specs.Chain.{links, indexOk, indexText, freeOk}
 use Rattle.row_index.specs.Numbers.{numbersAt}
 use Rattle.cell_map.specs.Map.{Map, Set as MapSet, Column as MapColumn}
 use Rattle.cell_map.specs.Fits.{fits}
-use Rattle.standard_text.specs.declared.Header.{Header}
+use Rattle.standard_header.specs.declared.Header.{Header}
 use Rattle.standard_text.specs.declared.Set.{Set}
 use Rattle.manager_file.specs.Start.{longEnough}
-use Rattle.standard_text.specs.Header.{headerAt}
+use Rattle.standard_header.specs.Header.{headerAt}
 use Rattle.standard_text.specs.Index.{indexAt, noSet}
 use Rattle.standard_rules.specs.declared.Checked.{Checked}
 

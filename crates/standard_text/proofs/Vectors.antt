@@ -13,7 +13,7 @@ use Rattle.aipsio.specs.declared.Cursor.{Cursor}
 use Rattle.aipsio.specs.Field.{skipped, skippedEach, judged, settled, sizedAt, uintAt, rangedAt, agreed, markAt, textBefore, textAt, nameAt}
 use Rattle.aipsio_objects.specs.Object.{entered, opened, closed, blockAt, mapAt}
 use Rattle.manager_file.specs.Start.{longEnough}
-use Rattle.standard_text.specs.Header.{bucketFieldsAt, indexFieldsAt, headed, headerIn, headerAt}
+use Rattle.standard_header.specs.Header.{bucketFieldsAt, indexFieldsAt, headed, headerIn, headerAt}
 use Rattle.standard_text.specs.Index.{setAt, noSet, setInto, setsAt, indexed, indexIn, indexAt}
 
 -- the mark and the header object

@@ -1,10 +1,10 @@
--- `standard_text::read_bucket_fields` meets its contract: its calls compose as the definition says, and a uInt is below 2^32.
+-- `standard_header::read_bucket_fields` meets its contract: its calls compose as the definition says, and a uInt is below 2^32.
 use borrow.Author.Needs.{needs}
 use mathlib.Core.Path.{refl}
 use Rattle.bytes_at.proofs.Stepped.{via, free}
-use Rattle.standard_text.specs.Header.{bucketFieldsAt}
-use Rattle.standard_text.proofs.read_bucket_fields.Statement.{statement}
-use Rattle.standard_text.proofs.read_bucket_fields.Tie as tie
+use Rattle.standard_header.specs.Header.{bucketFieldsAt}
+use Rattle.standard_header.proofs.read_bucket_fields.Statement.{statement}
+use Rattle.standard_header.proofs.read_bucket_fields.Tie as tie
 
 returns : tie.Need-returns
 unfolding bucketFieldsAt

@@ -1,10 +1,10 @@
--- `standard_text::read_header` meets its contract: its calls compose as the definition says, and its numbers are in range.
+-- `standard_header::read_header` meets its contract: its calls compose as the definition says, and its numbers are in range.
 use denote.Ref.{now}
 use Rattle.bytes_at.proofs.Stepped.{via, free}
-use Rattle.standard_text.specs.Header.{headerIn}
-use Rattle.standard_text.proofs.HeaderLaws.{headed-words, header-answered}
-use Rattle.standard_text.proofs.read_header.Statement.{statement}
-use Rattle.standard_text.proofs.read_header.Tie as tie
+use Rattle.standard_header.specs.Header.{headerIn}
+use Rattle.standard_header.proofs.HeaderLaws.{headed-words, header-answered}
+use Rattle.standard_header.proofs.read_header.Statement.{statement}
+use Rattle.standard_header.proofs.read_header.Tie as tie
 
 returns : tie.Need-returns
 unfolding headerIn

@@ -11,9 +11,9 @@ use Rattle.aipsio.specs.declared.Cursor.{Cursor}
 use Rattle.aipsio.specs.Field.{judged, uintAt, numberAt, markAt, flagAt}
 use Rattle.aipsio_objects.specs.Object.{opened, closed}
 use Rattle.manager_file.specs.Start.{headerRoom, sameEndian}
-use Rattle.standard_text.specs.declared.BucketFields.{BucketFields}
-use Rattle.standard_text.specs.declared.IndexFields.{IndexFields}
-use Rattle.standard_text.specs.declared.Header.{Header}
+use Rattle.standard_header.specs.declared.BucketFields.{BucketFields}
+use Rattle.standard_header.specs.declared.IndexFields.{IndexFields}
+use Rattle.standard_header.specs.declared.Header.{Header}
 
 -- "Header version 3", "its Bool equals the table's endianness" (else 6), "bucket size 16 to 1,048,576", "buckets 0 to 4,096",
 -- cache size, number of free buckets, first free bucket

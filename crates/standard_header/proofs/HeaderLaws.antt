@@ -13,10 +13,10 @@ use Rattle.aipsio.proofs.Kept.{Clean, Keeps, clean-before, uint-reads, ranged-r
 use Rattle.aipsio_objects.proofs.Kept.{closed-keeps}
 use Rattle.aipsio.proofs.Accepted.{judged-passed, ranged-within}
 use Rattle.aipsio.proofs.Bounds.{ranged-le}
-use Rattle.standard_text.specs.declared.BucketFields.{BucketFields}
-use Rattle.standard_text.specs.declared.IndexFields.{IndexFields}
-use Rattle.standard_text.specs.declared.Header.{Header}
-use Rattle.standard_text.specs.Header.{bucketFieldsAt, offsetFits, indexFieldsAt, headed, headerIn, HeaderBounds, HeaderWords}
+use Rattle.standard_header.specs.declared.BucketFields.{BucketFields}
+use Rattle.standard_header.specs.declared.IndexFields.{IndexFields}
+use Rattle.standard_header.specs.declared.Header.{Header}
+use Rattle.standard_header.specs.Header.{bucketFieldsAt, offsetFits, indexFieldsAt, headed, headerIn, HeaderBounds, HeaderWords}
 
 -- the fields on buckets
 pub record BucketBounds (b : BucketFields) : Type 0 where
