@@ -63,7 +63,7 @@ pub fn open(
     ensures { λ r. ⌜ r ≡ opened (now (s .entry)) c (textOf n first last) low high ⌝ }
 {
     let len = aipsio::uint(s, c);
-    let d = aipsio::text_name(s, len.next, n, first, last);
+    let d = aipsio_strings::text_name(s, len.next, n, first, last);
     let v = aipsio::version(s, d, low, high);
     let e = enter(v.next, c, len.value);
     aipsio::settle(v.value, e)

@@ -1,4 +1,4 @@
-// Bytes: the numbers that stand in them, their parts, comparing, clearing and copying.
+// Bytes: the numbers that stand in them, their parts, clearing and copying.
 ghost use mathlib.Core.Path.{_≡_};
 ghost use mathlib.Core.Bool.{true, false, _&&_};
 ghost use Prim.Native.Nat.{_+_, _-_, _≤_, _<_};
@@ -89,6 +89,17 @@ fn little_word(s: &[u8], at: usize) -> usize
     d * 16777216 + c * 65536 + b * 256 + a
 }
 
+// The number in four bytes that are there, in either byte order.
+pub fn word_there(s: &[u8], at: usize, big: bool) -> usize
+    requires { ⌜ at + 4 ≤ length (now s) ⌝ }
+    ensures { λ r. ⌜ r ≡ uintOf big 4 (now (s .entry)) at ⌝ }
+{
+    if big {
+        return big_word(s, at);
+    }
+    little_word(s, at)
+}
+
 // The number in eight bytes that are there, most significant byte first.
 pub fn big_long(s: &[u8], at: usize) -> usize
     requires { ⌜ at + 8 ≤ length (now s) ⌝ }
@@ -110,10 +121,7 @@ pub fn word(s: &[u8], at: usize, big: bool) -> usize
     if s.len() - 4 < at {
         return 0;
     }
-    if big {
-        return big_word(s, at);
-    }
-    little_word(s, at)
+    word_there(s, at, big)
 }
 
 // The number in eight bytes; 0 where the bytes end before.

@@ -4,25 +4,11 @@
 ghost use mathlib.Core.Path.{_≡_};
 ghost use mathlib.Core.List.{[], _∷_};
 ghost use lib.ListN.{length};
-ghost use Rattle.table.specs.Table.{describedAs, positionOf};
+ghost use Rattle.table.specs.Table.{describedAs};
+ghost use Rattle.column_names.specs.ColumnNames.{positionOf};
 ghost use Rattle.lookup_rules.specs.Questions.{answerOf, roomAfter};
-ghost use Rattle.c_values.specs.Answers.{
-  orShort,
-  written,
-  roomLeft,
-  summaryOf,
-  columnRefusal,
-  managerRefusal,
-  columnNumbers,
-  managerNumbers,
-  positionRefusal,
-  positionNumber,
-  planNumbers,
-  planFrom,
-  byPlan,
-  placeNumbers,
-  viewNumbers,
-};
+ghost use Rattle.c_values.specs.Answers.{orShort, written, roomLeft, summaryOf, columnRefusal, managerRefusal, columnNumbers, managerNumbers, positionRefusal, positionNumber, byPlan};
+ghost use Rattle.c_numbers.specs.Numbers.{planNumbers, planFrom, placeNumbers, viewNumbers};
 use lookup_rules::Question;
 
 // Row count, byte order (1: big endian), number of columns, number of managers: 4 numbers.
@@ -31,7 +17,7 @@ pub extern "C" fn hv_description(table: &[u8], out: &mut [u64]) -> u64
     ensures { λ r. ⌜ (r ≡ orShort (summaryOf (describedAs (now (table .entry)))) (now (out .entry)) (describedAs (now (table .entry)) .refused)) × (now (out .exit) ≡ written (summaryOf (describedAs (now (table .entry)))) (now (out .entry))) ⌝ }
 {
     let d = table::describe(table);
-    let big = c_values::flag(d.big);
+    let big = c_numbers::flag(d.big);
     let values = [
         d.rows as u64,
         big,
@@ -54,21 +40,7 @@ pub extern "C" fn hv_column(table: &[u8], position: u64, out: &mut [u64]) -> u64
     let c = c_values::pick_column(columns, count, position);
     let b = c_values::pick_binding(bindings, count, position);
     let refused = c_values::refusal(d.refused, position, count);
-    let array = c_values::flag(c.array);
-    let t = c.datatype;
-    let values = [
-        c.start as u64,
-        c.len as u64,
-        t.number as u64,
-        array,
-        c.options as u64,
-        c.elements as u64,
-        c.maximum as u64,
-        c.bits as u64,
-        b.sequence as u64,
-        b.set as u64,
-        b.offset as u64,
-    ];
+    let values = c_numbers::of_column(c, b);
     c_values::answer(refused, &values, out)
 }
 
@@ -83,9 +55,7 @@ pub extern "C" fn hv_manager(table: &[u8], index: u64, out: &mut [u64]) -> u64
     let managers = d.managers;
     let m = c_values::pick_manager(managers, count, index);
     let refused = c_values::refusal(d.refused, index, count);
-    let kind = m.kind;
-    let number = c_values::kind_number(kind);
-    let values = [m.number as u64, number, m.start as u64, m.len as u64];
+    let values = c_numbers::of_manager(m);
     c_values::answer(refused, &values, out)
 }
 
@@ -94,7 +64,7 @@ pub extern "C" fn hv_manager(table: &[u8], index: u64, out: &mut [u64]) -> u64
 pub extern "C" fn hv_column_by_name(table: &[u8], name: &[u8], out: &mut [u64]) -> u64
     ensures { λ r. ⌜ (r ≡ orShort (positionNumber (positionOf (now (table .entry)) (now (name .entry))) ∷ []) (now (out .entry)) (positionRefusal (positionOf (now (table .entry)) (now (name .entry))))) × (now (out .exit) ≡ written (positionNumber (positionOf (now (table .entry)) (now (name .entry))) ∷ []) (now (out .entry))) ⌝ }
 {
-    let p = table::column_by_name(table, name);
+    let p = column_names::column_by_name(table, name);
     let refused = c_values::position_refusal(p);
     let values = [c_values::position_number(p)];
     c_values::answer(refused, &values, out)
@@ -125,17 +95,7 @@ pub extern "C" fn hv_plan(
     }
     let a = lookup_ask::ask(table, file, Question::Prepare(position as usize), room);
     let p = a.plan;
-    let values = [
-        p.position as u64,
-        p.sequence as u64,
-        p.datatype as u64,
-        p.elements as u64,
-        p.bits as u64,
-        p.set as u64,
-        p.offset as u64,
-        p.per as u64,
-        p.size as u64,
-    ];
+    let values = c_numbers::of_plan(p);
     c_values::answer(a.refused as u64, &values, out)
 }
 
@@ -147,7 +107,7 @@ fn answer_place(table: &[u8], file: &[u8], q: Question, room: &mut [u8], out: &m
         return 255;
     }
     let a = lookup_ask::ask(table, file, q, room);
-    let values = [a.first as u64, a.count as u64];
+    let values = c_numbers::of_place(a);
     c_values::answer(a.refused as u64, &values, out)
 }
 
@@ -159,7 +119,7 @@ fn answer_view(table: &[u8], file: &[u8], q: Question, room: &mut [u8], out: &mu
         return 255;
     }
     let a = lookup_ask::ask(table, file, q, room);
-    let values = [(a.first / 8) as u64, (a.count / 8) as u64];
+    let values = c_numbers::of_view(a);
     c_values::answer(a.refused as u64, &values, out)
 }
 
@@ -199,7 +159,7 @@ pub extern "C" fn hv_place_planned(
     if plan.len() < 9 {
         return 255;
     }
-    let p = c_values::plan_from(plan);
+    let p = c_numbers::plan_from(plan);
     answer_place(
         table,
         file,
@@ -245,7 +205,7 @@ pub extern "C" fn hv_view_planned(
     if plan.len() < 9 {
         return 255;
     }
-    let p = c_values::plan_from(plan);
+    let p = c_numbers::plan_from(plan);
     answer_view(
         table,
         file,

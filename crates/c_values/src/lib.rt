@@ -1,45 +1,11 @@
 // What C gets and gives: answers as numbers, and a plan from its nine numbers.
 ghost use mathlib.Core.Path.{_≡_};
 ghost use Prim.Native.Nat.{_≤_};
-ghost use lib.ListN.{length};
-ghost use Rattle.c_values.specs.Answers.{
-  orShort,
-  written,
-  flagOf,
-  kindNumber,
-  pickedColumn,
-  pickedBinding,
-  pickedManager,
-  positionRefusal,
-  positionNumber,
-  missing,
-  planFrom,
-};
+ghost use Rattle.c_values.specs.Answers.{orShort, written, pickedColumn, pickedBinding, pickedManager, positionRefusal, positionNumber, missing};
 use column_desc::Column;
+use column_names::Position;
 use column_set::Binding;
-use data_managers::Kind;
 use data_managers::Manager;
-use lookup_rules::Plan;
-use table::Position;
-
-pub fn flag(b: bool) -> u64
-    ensures { λ r. ⌜ r ≡ flagOf b ⌝ }
-{
-    if b {
-        return 1;
-    }
-    0
-}
-
-pub fn kind_number(kind: Kind) -> u64
-    ensures { λ r. ⌜ r ≡ kindNumber kind ⌝ }
-{
-    match kind {
-        Kind::Other => 0,
-        Kind::Standard => 1,
-        Kind::Incremental => 2,
-    }
-}
 
 // The refusal so far, or 8 where there is no such position.
 pub fn refusal(refused: usize, position: u64, count: usize) -> u64
@@ -123,23 +89,5 @@ pub fn position_number(p: Position) -> u64
     match p {
         Position::At(k) => k as u64,
         Position::Refused(_) => 0,
-    }
-}
-
-// The first nine numbers as a plan.
-pub fn plan_from(numbers: &[u64]) -> Plan
-    requires { ⌜ 9 ≤ length (now numbers) ⌝ }
-    ensures { λ r. ⌜ r ≡ planFrom (now (numbers .entry)) ⌝ }
-{
-    Plan {
-        position: numbers[0] as usize,
-        sequence: numbers[1] as usize,
-        datatype: numbers[2] as usize,
-        elements: numbers[3] as usize,
-        bits: numbers[4] as usize,
-        set: numbers[5] as usize,
-        offset: numbers[6] as usize,
-        per: numbers[7] as usize,
-        size: numbers[8] as usize,
     }
 }

@@ -53,7 +53,7 @@ pub struct ColumnRead {
 fn read_type(s: &[u8], c: Cursor) -> TypeRead
     ensures { λ r. ⌜ r ≡ typeAt (now (s .entry)) c ⌝ }
 {
-    let t = aipsio::string(s, c, 0, 4096);
+    let t = aipsio_strings::string(s, c, 0, 4096);
     let k = column_types::column_type(bytes_at::part(s, t.start, t.len));
     let d = aipsio::judge(t.next, c.at, k.known, 5);
     let datatype = k.datatype;
@@ -72,7 +72,7 @@ fn read_head(s: &[u8], c: Cursor) -> Head
     let v = aipsio::version(s, c, 1, 1);
     let t = read_type(s, v.next);
     let w = aipsio::version(s, t.next, 1, 1);
-    let name = aipsio::string(s, w.next, 1, 64);
+    let name = aipsio_strings::string(s, w.next, 1, 64);
     let datatype = t.datatype;
     let next = name.next;
     Head {

@@ -32,7 +32,7 @@ fn read_sequence(s: &[u8], c: Cursor) -> Sequence
     ensures bounded { λ r. ⌜ r .value < 4294967296 ⌝ }
 {
     let v = aipsio::version(s, c, 2, 2);
-    let name = aipsio::string(s, v.next, 0, 4096);
+    let name = aipsio_strings::string(s, v.next, 0, 4096);
     let w = aipsio::version(s, name.next, 1, 1);
     let q = aipsio::uint(s, w.next);
     let next = q.next;

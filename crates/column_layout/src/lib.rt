@@ -18,9 +18,9 @@ pub struct Layout {
 pub fn skip_notes(s: &[u8], c: Cursor) -> Cursor
     ensures { λ r. ⌜ r ≡ notesAt (now (s .entry)) c ⌝ }
 {
-    let comment = aipsio::string(s, c, 0, 4096);
-    let manager = aipsio::string(s, comment.next, 0, 4096);
-    let group = aipsio::string(s, manager.next, 0, 4096);
+    let comment = aipsio_strings::string(s, c, 0, 4096);
+    let manager = aipsio_strings::string(s, comment.next, 0, 4096);
+    let group = aipsio_strings::string(s, manager.next, 0, 4096);
     group.next
 }
 
@@ -115,7 +115,7 @@ fn skip_default(s: &[u8], c: Cursor, array: bool, bits: usize) -> Cursor
         return v.next;
     }
     if bits == 0 {
-        let t = aipsio::string(s, c, 0, 4096);
+        let t = aipsio_strings::string(s, c, 0, 4096);
         return t.next;
     }
     aipsio::skip(c, bits / 8)

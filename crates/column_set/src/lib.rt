@@ -51,7 +51,7 @@ pub fn read_infos(s: &[u8], c: Cursor, ours: [bool; 16], counts: [usize; 16], m:
     let mut next = c;
     let mut j = 0;
     while j < m {
-        let t = aipsio::any_string(s, next);
+        let t = aipsio_strings::any_string(s, next);
         let ok = length_fits(ours[j], t.len, counts[j]);
         next = aipsio::judge(t.next, next.at, ok, 7);
         starts[j] = t.start;

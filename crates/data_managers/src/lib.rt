@@ -151,7 +151,7 @@ pub fn read_managers(s: &[u8], c: Cursor, n: usize, highest: usize) -> Managers
     let mut next = c;
     let mut i = 0;
     while i < n {
-        let name = aipsio::string(s, next, 0, 4096);
+        let name = aipsio_strings::string(s, next, 0, 4096);
         let number = aipsio::uint(s, name.next);
         let k = first_number(&numbers, i, number.value);
         let ok = is_new(k, i, number.value, highest);

@@ -72,6 +72,33 @@ impl DataType {
         bits: 64,
     };
 
+    // The names, filled with spaces to eight characters.
+    const BOOL_NAME: [u8; 8] = *b"Bool    ";
+
+    const UCHAR_NAME: [u8; 8] = *b"uChar   ";
+
+    const SHORT_NAME: [u8; 8] = *b"Short   ";
+
+    const USHORT_NAME: [u8; 8] = *b"uShort  ";
+
+    const INT_NAME: [u8; 8] = *b"Int     ";
+
+    const UINT_NAME: [u8; 8] = *b"uInt    ";
+
+    const FLOAT_NAME: [u8; 8] = *b"float   ";
+
+    const DOUBLE_NAME: [u8; 8] = *b"double  ";
+
+    const COMPLEX_NAME: [u8; 8] = *b"Complex ";
+
+    const DCOMPLEX_NAME: [u8; 8] = *b"DComplex";
+
+    const STRING_NAME: [u8; 8] = *b"String  ";
+
+    const INT64_NAME: [u8; 8] = *b"Int64   ";
+
+    const NO_NAME: [u8; 8] = *b"        ";
+
     // How many data types there are.
     pub const COUNT: usize = 12;
 
@@ -101,19 +128,19 @@ impl DataType {
     {
         let number = self.number;
         match number {
-            0 => *b"Bool    ",
-            2 => *b"uChar   ",
-            3 => *b"Short   ",
-            4 => *b"uShort  ",
-            5 => *b"Int     ",
-            6 => *b"uInt    ",
-            7 => *b"float   ",
-            8 => *b"double  ",
-            9 => *b"Complex ",
-            10 => *b"DComplex",
-            11 => *b"String  ",
-            29 => *b"Int64   ",
-            _ => *b"        ",
+            0 => DataType::BOOL_NAME,
+            2 => DataType::UCHAR_NAME,
+            3 => DataType::SHORT_NAME,
+            4 => DataType::USHORT_NAME,
+            5 => DataType::INT_NAME,
+            6 => DataType::UINT_NAME,
+            7 => DataType::FLOAT_NAME,
+            8 => DataType::DOUBLE_NAME,
+            9 => DataType::COMPLEX_NAME,
+            10 => DataType::DCOMPLEX_NAME,
+            11 => DataType::STRING_NAME,
+            29 => DataType::INT64_NAME,
+            _ => DataType::NO_NAME,
         }
     }
 

@@ -68,7 +68,7 @@ pub fn check(
     }
     let columns = d.columns;
     let bindings = d.bindings;
-    let cells = incremental_cells::gather_cells(
+    let cells = incremental_columns::gather_cells(
         columns,
         bindings,
         d.column_count,

@@ -23,7 +23,7 @@ fn read_data(s: &[u8], c: Cursor, size: usize) -> Value
     if left < 4 {
         return incremental_values::refuse(c, at, 1);
     }
-    let x = incremental_values::number_at(s, at, big == 1);
+    let x = bytes_at::word_there(s, at, big == 1);
     if 16777216 <= x {
         return incremental_values::refuse(c, at, 3);
     }
@@ -60,7 +60,7 @@ fn read_column(s: &[u8], c: Cursor, limit: usize, rows: usize, row: usize, bytes
     if aipsio::left(c) < 4 {
         return incremental_values::refuse(c, at, 1);
     }
-    let n = incremental_values::number_at(s, at, big == 1);
+    let n = bytes_at::word_there(s, at, big == 1);
     if n == 0 {
         return incremental_values::refuse(c, at, 11);
     }

@@ -1,4 +1,4 @@
--- The loops over the columns of a table and over the buckets of the index: what a turn gives.
+-- The loop over the buckets of the index: what a turn gives.
 -- Assumes nothing.
 use mathlib.Core.Path.{_≡_, refl, sym}
 use mathlib.Core.Bool.{Bool, true, cond}
@@ -6,42 +6,21 @@ use mathlib.Core.List.{List}
 use Prim.Native.Nat.{ℕ, _+_, _-_, _*_, _≤_, _<_}
 use native.Mathlib.Nat.{mul-le-mul}
 use native.Mathlib.Omega.{arith}
-use lib.ListN.{getD, set}
-use lib.Dec.{leb, eqb}
-use borrow.Author.Tests.{eq-eqb, ne-eqb}
+use lib.Dec.{leb}
+use borrow.Author.Tests.{ne-eqb}
 use Rattle.bytes_at.specs.Loop.{after}
 use Rattle.bytes_at.specs.Stages.{_▷_}
 use Rattle.bytes_at.proofs.Loops.{after-more, after-stop}
 use Rattle.bytes_at.proofs.Stepped.{via}
 use Rattle.aipsio.specs.declared.Value.{Value}
-use Rattle.column_desc.specs.declared.Column.{Column}
-use Rattle.column_desc.specs.ColumnDesc.{blank}
-use Rattle.column_set.specs.declared.Binding.{Binding}
-use Rattle.column_set.specs.ColumnSet.{noBinding}
 use Rattle.buckets.specs.Chain.{startOf}
 use Rattle.row_index.specs.Numbers.{numberIn}
 use Rattle.incremental_text.specs.declared.Index.{Index}
 use Rattle.incremental_bucket.specs.Bucket.{bucketAt}
 use Rattle.incremental_rules.specs.declared.Cells.{Cells}
 use Rattle.incremental_rules.specs.declared.Found.{Found}
-use Rattle.incremental_rules.specs.Rules.{cellBytes, cellInto, foundAs, bucketInto, nothing}
+use Rattle.incremental_rules.specs.Rules.{foundAs, bucketInto, nothing}
 
--- ---- columns
-module _ (cs : List Column) (bs : List Binding) (sequence position : ℕ) (cells : Cells) (k : ℕ) where
-  module _ {bytes : List ℕ} {count column : ℕ} where
-    pub cell-on : {v column′ : ℕ} → getD bs k noBinding .sequence ≡ sequence → v ≡ cellBytes (getD cs k blank)
-        → column′ ≡ cond (eqb k position) (cells .count) (cells .column)
-        → bytes ≡ set (cells .bytes) (cells .count) v → count ≡ cells .count + 1 → column ≡ column′
-        → record { bytes = bytes; count = count; column = column } ≡ cellInto cs bs sequence position cells k
-    unfolding cellInto
-    cell-on h p q eb ec ek = rw (eq-eqb _ _ h, eb, ec, ek, p, q)
-
-    pub cell-off : (getD bs k noBinding .sequence ≡ sequence → ⊥) → bytes ≡ cells .bytes → count ≡ cells .count → column ≡ cells .column
-        → record { bytes = bytes; count = count; column = column } ≡ cellInto cs bs sequence position cells k
-    unfolding cellInto
-    cell-off h eb ec ek = rw (ne-eqb _ _ h, eb, ec, ek)
-
--- ---- buckets
 -- where a bucket may start
 pub start-most : {size b : ℕ} → size ≤ 1048576 → b < 4294967296 → b * size ≤ 4503599627370496
 start-most {size} {b} h l = let k : b ≤ 4294967296 = omega arith in mul-le-mul k h

@@ -7,56 +7,10 @@ ghost use lib.ListN.{length};
 ghost use Rattle.buckets.specs.Chain.{startOf};
 ghost use Rattle.row_index.specs.Numbers.{numberIn};
 ghost use Rattle.incremental_text.specs.Index.{IndexInside};
-ghost use Rattle.incremental_rules.specs.Rules.{cellBytes, cellsIn, searchOf};
-use column_desc::Column;
-use column_set::Binding;
+ghost use Rattle.incremental_rules.specs.Rules.{searchOf};
 use incremental_rules::Cells;
 use incremental_rules::Found;
 use incremental_text::Index;
-
-// The whole bytes of a cell, 0 for a String.
-pub fn cell_bytes(c: Column) -> usize
-    ensures { λ r. ⌜ r ≡ cellBytes c ⌝ }
-{
-    let datatype = c.datatype;
-    if datatype.number == 11 {
-        return 0;
-    }
-    (c.bits as usize + 7) / 8
-}
-
-// Of n columns, those that are bound to the manager with the sequence number, and which of them is at the position.
-pub fn gather_cells(
-    columns: [Column; 64],
-    bindings: [Binding; 64],
-    n: usize,
-    sequence: usize,
-    position: usize,
-) -> Cells
-    requires { ⌜ n ≤ 64 ⌝ }
-    ensures { λ r. ⌜ r ≡ cellsIn columns bindings n sequence position ⌝ }
-    ensures few { λ r. ⌜ r .count ≤ 64 ⌝ }
-{
-    let mut bytes = [0usize; 64];
-    let mut count = 0;
-    let mut column = 64;
-    let mut k = 0;
-    while k < n {
-        let b = bindings[k];
-        if b.sequence as usize == sequence {
-            let c = columns[k];
-            bytes[count] = cell_bytes(c);
-            column = incremental_values::choose(k == position, count, column);
-            count += 1;
-        }
-        k += 1;
-    }
-    Cells {
-        bytes: bytes,
-        count: count,
-        column: column,
-    }
-}
 
 // The buckets in index order, which all lie in the file, up to the first that is refused. Gives the start of the row's bucket, and the offset of the row's
 // value in the column.

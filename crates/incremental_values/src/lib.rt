@@ -5,7 +5,6 @@ ghost use mathlib.Core.Bool.{cond};
 ghost use Prim.Native.Nat.{_+_, _≤_, _<_};
 ghost use lib.Dec.{leb};
 ghost use lib.ListN.{length};
-ghost use Rattle.bytes_at.specs.Number.{uintOf};
 ghost use Rattle.incremental_values.specs.Values.{refusedValue, startFits, startsAt, offsetsAt};
 use aipsio::Cursor;
 use aipsio::Value;
@@ -26,27 +25,6 @@ pub fn choose(test: bool, a: usize, b: usize) -> usize
         return a;
     }
     b
-}
-
-fn wide(x: u8) -> usize
-    ensures { λ r. ⌜ (r ≡ x) × (r < 256) ⌝ }
-{
-    x as usize
-}
-
-// The number in four bytes that are there.
-pub fn number_at(s: &[u8], at: usize, big: bool) -> usize
-    requires { ⌜ at + 4 ≤ length (now s) ⌝ }
-    ensures { λ r. ⌜ r ≡ uintOf big 4 (now (s .entry)) at ⌝ }
-{
-    let a = wide(s[at]);
-    let b = wide(s[at + 1]);
-    let c = wide(s[at + 2]);
-    let d = wide(s[at + 3]);
-    if big {
-        return a * 16777216 + b * 65536 + c * 256 + d;
-    }
-    d * 16777216 + c * 65536 + b * 256 + a
 }
 
 // The lesser of two numbers.
@@ -110,7 +88,7 @@ pub fn read_starts(s: &[u8], c: Cursor, n: usize, rows: usize, row: usize) -> St
     let mut hit = 0;
     let mut i = 0;
     while i < m {
-        let v = number_at(s, at, big == 1);
+        let v = bytes_at::word_there(s, at, big == 1);
         if !start_fits(i, last, v, rows) {
             return Starts {
                 last: 0,
@@ -181,7 +159,7 @@ pub fn read_offsets(s: &[u8], c: Cursor, n: usize, limit: usize, bytes: usize, h
     let mut offset = 0;
     let mut i = 0;
     while i < m {
-        let v = number_at(s, at, big == 1);
+        let v = bytes_at::word_there(s, at, big == 1);
         if !lies_within(v, bytes, limit) {
             return Value {
                 value: 0,

@@ -2,7 +2,6 @@
 ghost use mathlib.Core.Path.{_≡_};
 ghost use lib.ListN.{length};
 ghost use Rattle.lookup_rules.specs.Questions.{answerOf, roomAfter, verdictOf, planOf, placedOf, viewOf};
-use lookup_rules::Answer;
 use lookup_rules::Placed;
 use lookup_rules::Plan;
 use lookup_rules::Planned;
@@ -14,11 +13,7 @@ pub fn check(table: &[u8], file: &[u8], sequence: usize, room: &mut [u8]) -> Ver
     ensures { λ r. ⌜ (r ≡ verdictOf (answerOf (now (table .entry)) (now (file .entry)) (Question.Check sequence) (length (now (room .entry))))) × (now (room .exit) ≡ roomAfter (now (table .entry)) (now (file .entry)) (Question.Check sequence) (length (now (room .entry)))) ⌝ }
 {
     let a = lookup_ask::ask(table, file, Question::Check(sequence), room);
-    let refused = a.refused;
-    if refused == 0 {
-        return Verdict::Accepted;
-    }
-    Verdict::Refused(refused)
+    answer_types::verdict(a)
 }
 
 // Plan.
@@ -26,25 +21,7 @@ pub fn make_plan(table: &[u8], file: &[u8], position: usize, room: &mut [u8]) ->
     ensures { λ r. ⌜ (r ≡ planOf (answerOf (now (table .entry)) (now (file .entry)) (Question.Prepare position) (length (now (room .entry))))) × (now (room .exit) ≡ roomAfter (now (table .entry)) (now (file .entry)) (Question.Prepare position) (length (now (room .entry)))) ⌝ }
 {
     let a = lookup_ask::ask(table, file, Question::Prepare(position), room);
-    let refused = a.refused;
-    if refused == 0 {
-        let p = a.plan;
-        return Planned::Ready(p);
-    }
-    Planned::Refused(refused)
-}
-
-fn placed(a: Answer) -> Placed
-    ensures { λ r. ⌜ r ≡ placedOf a ⌝ }
-{
-    let refused = a.refused;
-    if refused == 0 {
-        return Placed::At {
-            first: a.first,
-            count: a.count,
-        };
-    }
-    Placed::Refused(refused)
+    answer_types::planned(a)
 }
 
 // Place of a row and a column position.
@@ -52,7 +29,7 @@ pub fn place(table: &[u8], file: &[u8], row: usize, position: usize, room: &mut 
     ensures { λ r. ⌜ (r ≡ placedOf (answerOf (now (table .entry)) (now (file .entry)) (Question.Place row position) (length (now (room .entry))))) × (now (room .exit) ≡ roomAfter (now (table .entry)) (now (file .entry)) (Question.Place row position) (length (now (room .entry)))) ⌝ }
 {
     let a = lookup_ask::ask(table, file, Question::Place(row, position), room);
-    placed(a)
+    answer_types::placed(a)
 }
 
 // Place of a row by a prepared plan.
@@ -60,14 +37,7 @@ pub fn place_planned(table: &[u8], file: &[u8], row: usize, plan: Plan, room: &m
     ensures { λ r. ⌜ (r ≡ placedOf (answerOf (now (table .entry)) (now (file .entry)) (Question.PlacePlanned row plan) (length (now (room .entry))))) × (now (room .exit) ≡ roomAfter (now (table .entry)) (now (file .entry)) (Question.PlacePlanned row plan) (length (now (room .entry)))) ⌝ }
 {
     let a = lookup_ask::ask(table, file, Question::PlacePlanned(row, plan), room);
-    placed(a)
-}
-
-// The part of the file that an answer's bits fill; the empty part where it is refused.
-fn part_of(file: &[u8], a: Answer) -> &[u8]
-    ensures { λ r. ⌜ now r ≡ viewOf (now (file .entry)) a ⌝ }
-{
-    bytes_at::part(file, a.first / 8, a.count / 8)
+    answer_types::placed(a)
 }
 
 // View of a row and a column position: the part of the file that holds the cell, the empty part where it is refused.
@@ -81,7 +51,7 @@ pub fn view<'f>(
     ensures { λ r. ⌜ (now r ≡ viewOf (now (file .entry)) (answerOf (now (table .entry)) (now (file .entry)) (Question.View row position) (length (now (room .entry))))) × (now (room .exit) ≡ roomAfter (now (table .entry)) (now (file .entry)) (Question.View row position) (length (now (room .entry)))) ⌝ }
 {
     let a = lookup_ask::ask(table, file, Question::View(row, position), room);
-    part_of(file, a)
+    answer_types::part_of(file, a)
 }
 
 // Why that view is refused; 0 where it is not.
@@ -109,7 +79,7 @@ pub fn view_planned<'f>(
     ensures { λ r. ⌜ (now r ≡ viewOf (now (file .entry)) (answerOf (now (table .entry)) (now (file .entry)) (Question.ViewPlanned row plan) (length (now (room .entry))))) × (now (room .exit) ≡ roomAfter (now (table .entry)) (now (file .entry)) (Question.ViewPlanned row plan) (length (now (room .entry)))) ⌝ }
 {
     let a = lookup_ask::ask(table, file, Question::ViewPlanned(row, plan), room);
-    part_of(file, a)
+    answer_types::part_of(file, a)
 }
 
 // Why that view is refused; 0 where it is not.

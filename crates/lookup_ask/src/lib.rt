@@ -1,95 +1,18 @@
 // Every question over a table and a data file (document 01, "The questions"), answered by one function, which alone clears the
 // room.
 ghost use mathlib.Core.Path.{_≡_};
-ghost use mathlib.Core.Bool.{false};
-ghost use lib.Dec.{T};
 ghost use lib.ListN.{length};
-ghost use Rattle.lookup_rules.specs.Questions.{rowOf, asksCell, answerOf, roomAfter};
-ghost use Rattle.lookup_ask.specs.Answering.{keepsText, settled, Findable, cellBit, answerWith};
+ghost use Rattle.lookup_rules.specs.Questions.{answerOf, roomAfter};
 use lookup_rules::Answer;
 use lookup_rules::Question;
-use lookup_rules::Staged;
-
-// Whether the room keeps the index text.
-fn keeps_text(s: Staged) -> bool
-    ensures { λ r. ⌜ r ≡ keepsText s ⌝ }
-{
-    if s.refused != 0 {
-        return false;
-    }
-    !s.incremental
-}
-
-// The one place that clears the room.
-fn settle(keep: bool, room: &mut [u8])
-    ensures { λ _. ⌜ now (room .exit) ≡ settled keep (now (room .entry)) ⌝ }
-{
-    if keep {
-        return;
-    }
-    bytes_at::clear(room);
-}
-
-// The first bit of the cell that a question asks for: in StandardStMan by the index text in the room. 0 where the question asks
-// for none or is refused.
-fn cell_bit(room: &[u8], s: Staged, q: Question) -> usize
-    requires { ⌜ (s .refused ≡ 0 → T (asksCell q) → s .incremental ≡ false → Findable (now room) s (rowOf q)) ⌝ }
-    ensures { λ r. ⌜ r ≡ cellBit (now (room .entry)) s q ⌝ }
-{
-    let wanted = question_parts::asks_cell(q);
-    let row = question_parts::row_of(q);
-    if s.refused != 0 {
-        return 0;
-    }
-    if wanted {
-        if s.incremental {
-            return s.first;
-        }
-        let p = s.plan;
-        let set = s.set;
-        return standard_place::first_bit(room, set, p.size, p.offset, p.bits, row);
-    }
-    0
-}
-
-// "A refusal carries its number and zeros."
-fn answer(s: Staged, q: Question, first: usize) -> Answer
-    ensures { λ r. ⌜ r ≡ answerWith s q first ⌝ }
-{
-    let wanted = question_parts::asks_cell(q);
-    let refused = s.refused;
-    if refused != 0 {
-        return Answer {
-            refused: refused,
-            plan: lookup_parts::no_plan(),
-            first: 0,
-            count: 0,
-        };
-    }
-    let p = s.plan;
-    if wanted {
-        return Answer {
-            refused: 0,
-            plan: p,
-            first: first,
-            count: p.bits,
-        };
-    }
-    Answer {
-        refused: 0,
-        plan: p,
-        first: 0,
-        count: 0,
-    }
-}
 
 // Every question: the answer, and the room as it is left.
 pub fn ask(table: &[u8], file: &[u8], q: Question, room: &mut [u8]) -> Answer
     ensures { λ r. ⌜ (r ≡ answerOf (now (table .entry)) (now (file .entry)) q (length (now (room .entry)))) × (now (room .exit) ≡ roomAfter (now (table .entry)) (now (file .entry)) q (length (now (room .entry)))) ⌝ }
 {
     let s = lookup_stages::stages(table, file, q, room);
-    let first = cell_bit(room, s, q);
-    let keep = keeps_text(s);
-    settle(keep, room);
-    answer(s, q, first)
+    let first = lookup_answer::cell_bit(room, s, q);
+    let keep = lookup_answer::keeps_text(s);
+    lookup_answer::settle(keep, room);
+    lookup_answer::answer(s, q, first)
 }

@@ -3,20 +3,17 @@ use Prim.Native.Nat.{ℕ}
 use mathlib.Core.List.{List}
 use mathlib.Core.Bool.{false, cond}
 use lib.ListN.{length, replicate}
-use lib.Dec.{eqb, leb, ltb}
+use lib.Dec.{eqb, leb}
 use Rattle.bytes_at.specs.Bytes.{bytes}
 use Rattle.bytes_at.specs.Steps.{_>>=_}
-use Rattle.bytes_at.specs.Stages.{_▷_, orNo}
 use Rattle.aipsio.specs.declared.Cursor.{Cursor}
 use Rattle.aipsio.specs.Field.{judged, numberAt, codeAt, markAt, nameAt, stringAt}
 use Rattle.aipsio_objects.specs.Object.{opened, closed, recordAt}
-use Rattle.column_desc.specs.ColumnDesc.{columnsAt, blank, firstNamed}
+use Rattle.column_desc.specs.ColumnDesc.{columnsAt, blank}
 use Rattle.data_managers.specs.DataManagers.{headAt as setHeadAt, managersAt, noManager}
 use Rattle.column_set.specs.ColumnSet.{infosAt, bindingsAt, noBinding}
 use Rattle.column_info.specs.ColumnInfo.{ownersAt}
 use Rattle.table.specs.declared.Description.{Description}
-use Rattle.table.specs.declared.Position.{Position}
-use Rattle.table.specs.declared.Position.the-variants.{At, Refused}
 use Rattle.table.specs.declared.Head.{Head}
 use Rattle.table.specs.declared.DescHead.{DescHead}
 
@@ -85,13 +82,3 @@ describedAs s = do
         big = head .big;
       })
       (refusedWith (d .refused))
-
-abbrev pub placed : ℕ → ℕ → Position
-placed refused k = cond (eqb refused 0) (At k) (Refused refused)
-
--- Column by name: its position, from 0 in stored order, or 8
-unfoldable pub positionOf : List ℕ → List ℕ → Position
-positionOf s name = do
-  d ← describedAs s
-  k ← firstNamed s (d .columns) (d .«column_count») name
-  placed (d .refused ▷ orNo (ltb k (d .«column_count»)) 8) k

@@ -1,7 +1,7 @@
 // table.dat (document 01, "table.dat"; Note 260, 3.1): Description and Column by name.
 ghost use mathlib.Core.Path.{_≡_};
 ghost use Prim.Native.Nat.{_≤_};
-ghost use Rattle.table.specs.Table.{headAt, descHeadAt, describedAs, refusedWith, positionOf};
+ghost use Rattle.table.specs.Table.{headAt, descHeadAt, describedAs, refusedWith};
 use aipsio::Cursor;
 use bytes_at::Width;
 use column_desc::Column;
@@ -18,12 +18,6 @@ pub struct Description {
     pub bindings: [Binding; 64],
     pub managers: [Manager; 16],
     pub big: bool,
-}
-
-// A column's position, or the refusal.
-pub enum Position {
-    At(usize),
-    Refused(usize),
 }
 
 // Row count and endianness, and the cursor past the table type.
@@ -45,7 +39,7 @@ fn read_head(s: &[u8], c: Cursor) -> Head
 {
     let rows = aipsio::number(s, c, Width::Four, 0, 2147483647);
     let endian = aipsio::code(s, rows.next, 0, 1);
-    let kind = aipsio::name(s, endian.next, b"PlainTable");
+    let kind = aipsio_strings::name(s, endian.next, b"PlainTable");
     Head {
         rows: rows.value,
         big: endian.value == 1,
@@ -58,9 +52,9 @@ fn read_desc_head(s: &[u8], c: Cursor) -> DescHead
     ensures { λ r. ⌜ r ≡ descHeadAt (now (s .entry)) c ⌝ }
     ensures bounded { λ r. ⌜ r .count ≤ 64 ⌝ }
 {
-    let name = aipsio::string(s, c, 0, 4096);
-    let version = aipsio::string(s, name.next, 0, 4096);
-    let comment = aipsio::string(s, version.next, 0, 4096);
+    let name = aipsio_strings::string(s, c, 0, 4096);
+    let version = aipsio_strings::string(s, name.next, 0, 4096);
+    let comment = aipsio_strings::string(s, version.next, 0, 4096);
     let keywords = aipsio_objects::record(s, comment.next);
     let private = aipsio_objects::record(s, keywords);
     let n = aipsio::number(s, private, Width::Four, 1, 64);
@@ -147,26 +141,4 @@ pub fn describe(s: &[u8]) -> Description
         bindings: bindings,
         managers: managers,
     }
-}
-
-// The position of the column with a name; 8 where there is none.
-pub fn column_by_name(s: &[u8], name: &[u8]) -> Position
-    ensures { λ r. ⌜ r ≡ positionOf (now (s .entry)) (now (name .entry)) ⌝ }
-{
-    let d = describe(s);
-    let refused = d.refused;
-    if refused != 0 {
-        return Position::Refused(refused);
-    }
-    let columns = d.columns;
-    let n = d.column_count;
-    let mut i = 0;
-    while i < n {
-        let c = columns[i];
-        if text_at::is_at(s, c.start, c.len, name) {
-            return Position::At(i);
-        }
-        i += 1;
-    }
-    Position::Refused(8)
 }

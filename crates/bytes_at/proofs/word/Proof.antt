@@ -11,6 +11,4 @@ word-spec =
     (λ c. search needs)
     (λ c. (no-number _ 4 _ _ (omega arith) (omega arith), omega arith))
     (λ c κs. search needs)
-    (λ c. rw (c .before .if3 .taken) (c .big-word .ensures))
-    (λ c κs. search needs)
-    (λ c. rw (c .before .if3 .left) (a-word _ _ (c .before .before .before .before .shared-slice-known .given) _ (c .little-word .ensures))))
+    (λ c. a-word _ _ (c .before .before .before .shared-slice-known .given) _ (c .word-there .ensures)))

@@ -13,10 +13,11 @@ returns c = short 2 _ _ _ _ _ refl (omega arith)
 
 returns-2 : tie.Need-returns-2
 returns-2 c =
-    let a = c .before .before .before .before .before .before .before .ask .ensures in
+    let a = c .before .before .before .before .before .before .before .before .ask .ensures in
+    let v = c .before .before .before .before .before .of-place .ensures in
     let told = c .before .before .answer .ensures in (
-      rw (← (a .0)) (told .0),
-      rw (← (a .0)) (told .1),
+      rw (← (a .0), ← v) (told .0),
+      rw (← (a .0), ← v) (told .1),
       asked 2 _ _ _ (omega arith) (a .1),
     )
 
@@ -25,6 +26,7 @@ answer-place-spec =
     tie.close
     (tie.spec
     returns
+    free
     free
     (λ c. search needs)
     free

@@ -6,8 +6,8 @@ use Rattle.c_api.proofs.hv_column.Tie as tie
 
 returns : tie.Need-returns
 returns c = (
-  rw (← (c .before .before .before .before .before .before .before .before .before .before .before .before .before .before .before .before .before .before .before .before .describe .ensures .0), ← (c .before .before .before .before .before .before .before .before .before .before .before .before .before .before .before .before .before .pick-column .ensures), ← (c .before .before .before .before .before .before .before .before .before .before .before .before .before .before .before .before .pick-binding .ensures), ← (c .before .before .before .before .before .before .before .before .before .before .before .before .before .before .before .refusal .ensures), ← (c .before .before .before .before .before .before .before .before .before .before .before .before .before .before .flag .ensures)) (c .before .before .answer .ensures .0),
-  rw (← (c .before .before .before .before .before .before .before .before .before .before .before .before .before .before .before .before .before .before .before .before .describe .ensures .0), ← (c .before .before .before .before .before .before .before .before .before .before .before .before .before .before .before .before .before .pick-column .ensures), ← (c .before .before .before .before .before .before .before .before .before .before .before .before .before .before .before .before .pick-binding .ensures), ← (c .before .before .before .before .before .before .before .before .before .before .before .before .before .before .flag .ensures)) (c .before .before .answer .ensures .1),
+  rw (← (c .before .before .before .before .before .before .before .before .before .before .before .describe .ensures .0), ← (c .before .before .before .before .before .before .before .before .pick-column .ensures), ← (c .before .before .before .before .before .before .before .pick-binding .ensures), ← (c .before .before .before .before .before .before .refusal .ensures), ← (c .before .before .before .before .before .of-column .ensures)) (c .before .before .answer .ensures .0),
+  rw (← (c .before .before .before .before .before .before .before .before .before .before .before .describe .ensures .0), ← (c .before .before .before .before .before .before .before .before .pick-column .ensures), ← (c .before .before .before .before .before .before .before .pick-binding .ensures), ← (c .before .before .before .before .before .of-column .ensures)) (c .before .before .answer .ensures .1),
 )
 
 pub hv-column-spec : {M : Type 1} → statement M
@@ -19,14 +19,6 @@ hv-column-spec =
     (λ c κs. search needs)
     free
     free
-    (λ c. search needs)
-    (λ c. search needs)
-    (λ c. search needs)
-    (λ c. search needs)
-    (λ c. search needs)
-    (λ c. search needs)
-    (λ c. search needs)
-    (λ c. search needs)
     (λ c. search needs)
     free
     (λ c. search needs)

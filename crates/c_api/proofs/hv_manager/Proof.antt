@@ -6,8 +6,8 @@ use Rattle.c_api.proofs.hv_manager.Tie as tie
 
 returns : tie.Need-returns
 returns c = (
-  rw (← (c .before .before .before .before .before .before .before .before .before .before .before .describe .ensures .0), ← (c .before .before .before .before .before .before .before .before .before .pick-manager .ensures), ← (c .before .before .before .before .before .before .before .before .refusal .ensures), ← (c .before .before .before .before .before .before .before .kind-number .ensures)) (c .before .before .answer .ensures .0),
-  rw (← (c .before .before .before .before .before .before .before .before .before .before .before .describe .ensures .0), ← (c .before .before .before .before .before .before .before .before .before .pick-manager .ensures), ← (c .before .before .before .before .before .before .before .kind-number .ensures)) (c .before .before .answer .ensures .1),
+  rw (← (c .before .before .before .before .before .before .before .before .before .describe .ensures .0), ← (c .before .before .before .before .before .before .before .pick-manager .ensures), ← (c .before .before .before .before .before .before .refusal .ensures), ← (c .before .before .before .before .before .of-manager .ensures)) (c .before .before .answer .ensures .0),
+  rw (← (c .before .before .before .before .before .before .before .before .before .describe .ensures .0), ← (c .before .before .before .before .before .before .before .pick-manager .ensures), ← (c .before .before .before .before .before .of-manager .ensures)) (c .before .before .answer .ensures .1),
 )
 
 pub hv-manager-spec : {M : Type 1} → statement M
@@ -18,8 +18,6 @@ hv-manager-spec =
     (λ c κs. search needs)
     free
     free
-    (λ c. search needs)
-    (λ c. search needs)
     (λ c. search needs)
     free
     (λ c. search needs)

@@ -12,10 +12,11 @@ returns c = short 9 _ _ _ _ _ refl (omega arith)
 
 returns-2 : tie.Need-returns-2
 returns-2 c =
-    let a = c .before .before .before .before .before .before .before .before .ask .ensures in
+    let a = c .before .before .before .before .before .before .before .before .before .ask .ensures in
+    let v = c .before .before .before .before .before .of-plan .ensures in
     let told = c .before .before .answer .ensures in (
-      rw (← (a .0)) (told .0),
-      rw (← (a .0)) (told .1),
+      rw (← (a .0), ← v) (told .0),
+      rw (← (a .0), ← v) (told .1),
       asked 9 _ _ _ (omega arith) (a .1),
     )
 
@@ -24,6 +25,7 @@ hv-plan-spec =
     tie.close
     (tie.spec
     returns
+    free
     free
     (λ c. search needs)
     free

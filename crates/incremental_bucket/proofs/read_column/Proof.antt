@@ -13,12 +13,12 @@ returns-2 c = (
   ap (λ (v : Value). v .next .end) (c .refuse .ensures),
 )
 
-number-at-requires : tie.Need-number-at-requires
-number-at-requires c κs = omega (arith, c .before .left .ensures, c .before .before .before .before .pre)
+word-there-requires : tie.Need-word-there-requires
+word-there-requires c κs = omega (arith, c .before .left .ensures, c .before .before .before .before .pre)
 
 returns-3 : tie.Need-returns-3
 returns-3 c = (
-  c .refuse2 .ensures ∙ column-none _ _ _ _ _ _ (c .before .before .before .before .before .if1 .left) (c .before .before .before .before .left .ensures) (omega arith) (c .before .before .number-at .ensures) (c .before .if3 .taken),
+  c .refuse2 .ensures ∙ column-none _ _ _ _ _ _ (c .before .before .before .before .before .if1 .left) (c .before .before .before .before .left .ensures) (omega arith) (c .before .before .word-there .ensures) (c .before .if3 .taken),
   ap (λ (v : Value). v .next .end) (c .refuse2 .ensures),
 )
 
@@ -30,7 +30,7 @@ read-offsets-requires c κs = omega (arith, c .read-starts .ensures .1, c .befor
 
 returns-4 : tie.Need-returns-4
 returns-4 c = (
-  column-on _ _ _ _ _ _ (c .before .before .before .before .before .before .if1 .left) (c .before .before .before .before .before .left .ensures) (omega arith) (c .before .before .before .number-at .ensures) (c .before .before .if3 .left) (c .before .read-starts .ensures .0) (c .read-offsets .ensures .0),
+  column-on _ _ _ _ _ _ (c .before .before .before .before .before .before .if1 .left) (c .before .before .before .before .before .left .ensures) (omega arith) (c .before .before .before .word-there .ensures) (c .before .before .if3 .left) (c .before .read-starts .ensures .0) (c .read-offsets .ensures .0),
   c .read-offsets .ensures .1 ∙ c .before .read-starts .ensures .1,
 )
 
@@ -42,7 +42,7 @@ read-column-spec =
     free
     free
     returns-2
-    number-at-requires
+    word-there-requires
     free
     returns-3
     add-t15

@@ -31,8 +31,8 @@ returns c = (starts-none _ _ _ _ _ (c .if1 .taken), refl)
 loop-holds : tie.Need-loop-holds Inv-loop μ-loop
 loop-holds c = (omega arith, omega arith, after-none _ _)
 
-number-at-requires : tie.Need-number-at-requires Inv-loop μ-loop
-number-at-requires c κs = omega (arith, room-at _ _ _ (c .before .before .before .left .ensures) (c .before .loop .inv .1) (c .before .before .least .ensures .1) (omega arith))
+word-there-requires : tie.Need-word-there-requires Inv-loop μ-loop
+word-there-requires c κs = omega (arith, room-at _ _ _ (c .before .before .before .left .ensures) (c .before .loop .inv .1) (c .before .before .least .ensures .1) (omega arith))
 
 add-at : tie.Need-add-at Inv-loop μ-loop
 add-at c = omega (arith, room-at _ _ _ (c .before .before .before .before .before .before .before .left .ensures) (c .before .before .before .before .before .loop .inv .1) (c .before .before .before .before .before .before .least .ensures .1) (omega arith))
@@ -41,7 +41,7 @@ returns-2 : tie.Need-returns-2 Inv-loop μ-loop
 returns-2 c = (
   starts-stop _ _ _ _ _ (c .before .before .before .before .before .before .before .if1 .left) _ (c .before .before .before .before .loop .inv .2) (omega arith) (λ z. omega arith)
       (start-wrong _ _ _ _ _ refl refl (omega (arith, room-at _ _ _ (c .before .before .before .before .before .before .left .ensures) (c .before .before .before .before .loop .inv .1) (c .before .before .before .before .before .least .ensures .1) (omega arith)))
-      (c .before .before .number-at .ensures) (c .before .start-fits .ensures) (not-true _ (c .if2 .taken))),
+      (c .before .before .word-there .ensures) (c .before .start-fits .ensures) (not-true _ (c .if2 .taken))),
   refl,
 )
 
@@ -51,7 +51,7 @@ loop-again c = (
   omega (arith, c .before .before .before .before .before .loop .inv .1),
   after-more _ _ _ (c .before .before .before .before .before .loop .inv .2)
       (start-on _ _ _ _ _ refl refl (omega (arith, room-at _ _ _ (c .before .before .before .before .before .before .before .left .ensures) (c .before .before .before .before .before .loop .inv .1) (c .before .before .before .before .before .before .least .ensures .1) (omega arith)))
-      (c .before .before .before .number-at .ensures) (c .before .before .start-fits .ensures) (not-false _ (c .before .if2 .left)) (c .choose .ensures)),
+      (c .before .before .before .word-there .ensures) (c .before .before .start-fits .ensures) (not-false _ (c .before .if2 .left)) (c .choose .ensures)),
 )
 
 returns-3 : tie.Need-returns-3 Inv-loop μ-loop
@@ -74,7 +74,7 @@ read-starts-spec =
     free
     free
     loop-holds
-    number-at-requires
+    word-there-requires
     free
     returns-2
     free

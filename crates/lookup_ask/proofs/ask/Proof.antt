@@ -1,8 +1,8 @@
 -- `lookup_ask::ask` meets its contract.
 use borrow.Author.Needs.{needs}
 use Rattle.bytes_at.proofs.Stepped.{free}
-use Rattle.lookup_ask.proofs.Laws.{room-is}
-use Rattle.lookup_ask.proofs.Cells.{findable-by, answer-by}
+use Rattle.lookup_answer.proofs.Laws.{room-is}
+use Rattle.lookup_answer.proofs.Cells.{findable-by, answer-by}
 use Rattle.lookup_ask.proofs.ask.Statement.{statement}
 use Rattle.lookup_ask.proofs.ask.Tie as tie
 

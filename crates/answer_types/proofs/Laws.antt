@@ -1,0 +1,33 @@
+-- The answers as their enums. Assumes nothing.
+use mathlib.Core.Path.{_≡_}
+use borrow.Author.Tests.{eq-eqb, ne-eqb}
+use Rattle.lookup_rules.specs.declared.Verdict.the-variants.{Accepted, Refused as NotAccepted}
+use Rattle.lookup_rules.specs.declared.Planned.the-variants.{Ready, Refused as NotPlanned}
+use Rattle.lookup_rules.specs.declared.Placed.the-variants.{At, Refused as NotPlaced}
+use Rattle.lookup_rules.specs.declared.Answer.{Answer}
+use Rattle.lookup_rules.specs.Questions.{verdictOf, planOf, placedOf}
+
+module _ (a : Answer) where
+  pub checked : a .refused ≡ 0 → Accepted ≡ verdictOf a
+  unfolding verdictOf
+  checked z = rw (eq-eqb (a .refused) 0 z)
+
+  pub not-checked : (a .refused ≡ 0 → ⊥) → NotAccepted (a .refused) ≡ verdictOf a
+  unfolding verdictOf
+  not-checked n = rw (ne-eqb (a .refused) 0 n)
+
+  pub planned-ready : a .refused ≡ 0 → Ready (a .plan) ≡ planOf a
+  unfolding planOf
+  planned-ready z = rw (eq-eqb (a .refused) 0 z)
+
+  pub not-planned : (a .refused ≡ 0 → ⊥) → NotPlanned (a .refused) ≡ planOf a
+  unfolding planOf
+  not-planned n = rw (ne-eqb (a .refused) 0 n)
+
+  pub placed-at : a .refused ≡ 0 → At (a .first) (a .count) ≡ placedOf a
+  unfolding placedOf
+  placed-at z = rw (eq-eqb (a .refused) 0 z)
+
+  pub not-placed : (a .refused ≡ 0 → ⊥) → NotPlaced (a .refused) ≡ placedOf a
+  unfolding placedOf
+  not-placed n = rw (ne-eqb (a .refused) 0 n)

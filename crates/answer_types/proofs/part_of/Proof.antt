@@ -1,0 +1,12 @@
+-- `answer_types::part_of` meets its contract.
+use Rattle.bytes_at.proofs.Stepped.{free}
+use Rattle.lookup_rules.specs.Questions.{viewOf}
+use Rattle.answer_types.proofs.part_of.Statement.{statement}
+use Rattle.answer_types.proofs.part_of.Tie as tie
+
+returns : tie.Need-returns
+unfolding viewOf
+returns c = c .part .ensures
+
+pub part-of-spec : {M : Type 1} → statement M
+part-of-spec = tie.close (tie.spec free returns)

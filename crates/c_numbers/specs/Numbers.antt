@@ -1,0 +1,58 @@
+-- The numbers that C gets for a column, a manager, a plan, a place or a view, and a plan from its numbers.
+use Prim.Native.Nat.{ℕ, _/_}
+use mathlib.Core.List.{List, [], _∷_}
+use mathlib.Core.Bool.{Bool, true, false}
+use lib.ListN.{getD}
+use Rattle.column_desc.specs.declared.Column.{Column}
+use Rattle.column_set.specs.declared.Binding.{Binding}
+use Rattle.data_managers.specs.declared.Manager.{Manager}
+use Rattle.data_managers.specs.declared.Kind.{Kind}
+use Rattle.data_managers.specs.declared.Kind.the-variants.{Other, Standard, Incremental}
+use Rattle.lookup_rules.specs.declared.Plan.{Plan}
+use Rattle.lookup_rules.specs.declared.Answer.{Answer}
+
+abbrev pub flagOf : Bool → ℕ
+flagOf true = 1
+flagOf false = 0
+
+abbrev pub kindNumber : Kind → ℕ
+kindNumber Other = 0
+kindNumber Standard = 1
+kindNumber Incremental = 2
+
+-- name start and length, data type, array, options, elements, maximum, cell bits, sequence number, set, offset
+abbrev pub oneColumn : Column → Binding → List ℕ
+oneColumn c b =
+    c .start ∷ c .len ∷ c .datatype .number ∷ flagOf (c .array) ∷ c .options ∷ c .elements ∷ c .maximum ∷ c .bits
+    ∷ b .sequence ∷ b .set ∷ b .offset ∷ []
+
+-- sequence number, kind, name start and length
+abbrev pub oneManager : Manager → List ℕ
+oneManager m = m .number ∷ kindNumber (m .kind) ∷ m .start ∷ m .len ∷ []
+
+-- "position, sequence number, data type, element count, cell bits, set, offset, rows per bucket and bucket size"
+abbrev pub planNumbers : Plan → List ℕ
+planNumbers p =
+    p .position ∷ p .sequence ∷ p .datatype ∷ p .elements ∷ p .bits ∷ p .set ∷ p .offset ∷ p .per ∷ p .size ∷ []
+
+-- the plan of nine numbers in that order
+unfoldable pub planFrom : List ℕ → Plan
+planFrom s = record {
+  position = getD s 0 0;
+  sequence = getD s 1 0;
+  datatype = getD s 2 0;
+  elements = getD s 3 0;
+  bits = getD s 4 0;
+  set = getD s 5 0;
+  offset = getD s 6 0;
+  per = getD s 7 0;
+  size = getD s 8 0;
+}
+
+-- Place: "first bit and bit count, counted from the file's start"
+abbrev pub placeNumbers : Answer → List ℕ
+placeNumbers a = a .first ∷ a .count ∷ []
+
+-- View: the same part of the file in bytes, its start and its length
+abbrev pub viewNumbers : Answer → List ℕ
+viewNumbers a = a .first / 8 ∷ a .count / 8 ∷ []

@@ -1,0 +1,107 @@
+// Columns, managers, plans, places and views as the numbers that C gets, and a plan from its numbers.
+ghost use mathlib.Core.Path.{_≡_};
+ghost use Prim.Native.Nat.{_≤_};
+ghost use lib.ListN.{length};
+ghost use Rattle.c_numbers.specs.Numbers.{flagOf, kindNumber, oneColumn, oneManager, planNumbers, placeNumbers, viewNumbers, planFrom};
+use column_desc::Column;
+use column_set::Binding;
+use data_managers::Kind;
+use data_managers::Manager;
+use lookup_rules::Answer;
+use lookup_rules::Plan;
+
+pub fn flag(b: bool) -> u64
+    ensures { λ r. ⌜ r ≡ flagOf b ⌝ }
+{
+    if b {
+        return 1;
+    }
+    0
+}
+
+pub fn kind_number(kind: Kind) -> u64
+    ensures { λ r. ⌜ r ≡ kindNumber kind ⌝ }
+{
+    match kind {
+        Kind::Other => 0,
+        Kind::Standard => 1,
+        Kind::Incremental => 2,
+    }
+}
+
+// A column and where it is kept.
+pub fn of_column(c: Column, b: Binding) -> [u64; 11]
+    ensures { λ r. ⌜ r ≡ oneColumn c b ⌝ }
+{
+    let t = c.datatype;
+    let array = flag(c.array);
+    [
+        c.start as u64,
+        c.len as u64,
+        t.number as u64,
+        array,
+        c.options as u64,
+        c.elements as u64,
+        c.maximum as u64,
+        c.bits as u64,
+        b.sequence as u64,
+        b.set as u64,
+        b.offset as u64,
+    ]
+}
+
+pub fn of_manager(m: Manager) -> [u64; 4]
+    ensures { λ r. ⌜ r ≡ oneManager m ⌝ }
+{
+    let kind = m.kind;
+    let number = kind_number(kind);
+    [m.number as u64, number, m.start as u64, m.len as u64]
+}
+
+pub fn of_plan(p: Plan) -> [u64; 9]
+    ensures { λ r. ⌜ r ≡ planNumbers p ⌝ }
+{
+    [
+        p.position as u64,
+        p.sequence as u64,
+        p.datatype as u64,
+        p.elements as u64,
+        p.bits as u64,
+        p.set as u64,
+        p.offset as u64,
+        p.per as u64,
+        p.size as u64,
+    ]
+}
+
+// A place: first bit and bit count.
+pub fn of_place(a: Answer) -> [u64; 2]
+    ensures { λ r. ⌜ r ≡ placeNumbers a ⌝ }
+{
+    [a.first as u64, a.count as u64]
+}
+
+// A view: the start and the length of the cell's part of the file, in bytes.
+pub fn of_view(a: Answer) -> [u64; 2]
+    ensures { λ r. ⌜ r ≡ viewNumbers a ⌝ }
+{
+    [(a.first / 8) as u64, (a.count / 8) as u64]
+}
+
+// The first nine numbers as a plan.
+pub fn plan_from(numbers: &[u64]) -> Plan
+    requires { ⌜ 9 ≤ length (now numbers) ⌝ }
+    ensures { λ r. ⌜ r ≡ planFrom (now (numbers .entry)) ⌝ }
+{
+    Plan {
+        position: numbers[0] as usize,
+        sequence: numbers[1] as usize,
+        datatype: numbers[2] as usize,
+        elements: numbers[3] as usize,
+        bits: numbers[4] as usize,
+        set: numbers[5] as usize,
+        offset: numbers[6] as usize,
+        per: numbers[7] as usize,
+        size: numbers[8] as usize,
+    }
+}

@@ -1,7 +1,0 @@
--- `lookup::placed` meets its contract.
-use Rattle.lookup.proofs.Laws.{placed-at, not-placed}
-use Rattle.lookup.proofs.placed.Statement.{statement}
-use Rattle.lookup.proofs.placed.Tie as tie
-
-pub placed-spec : {M : Type 1} → statement M
-placed-spec = tie.close (tie.spec (λ c. placed-at _ (c .if1 .taken)) (λ c. not-placed _ (c .if1 .left)))
