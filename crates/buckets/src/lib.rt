@@ -1,7 +1,7 @@
 // Buckets of a data manager's file: where one starts, the index text that stands in a chain of them, and the free list
 // (document 01, "StandardStMan" and "IncrementalStMan").
 ghost use mathlib.Core.Path.{_≡_};
-ghost use mathlib.Core.Bool.{true, false};
+ghost use mathlib.Core.Bool.{true};
 ghost use mathlib.Core.List.{_++_};
 ghost use Prim.Native.Nat.{min, _+_, _*_, _≤_, _<_};
 ghost use lib.ListN.{length, take, drop};

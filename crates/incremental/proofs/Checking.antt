@@ -15,9 +15,9 @@ use Rattle.cell_map.proofs.Places.{step}
 use Rattle.row_index.specs.Numbers.{numberIn}
 use Rattle.table.specs.declared.Description.{Description}
 use Rattle.manager_file.specs.Start.{longEnough}
-use Rattle.incremental_text.specs.declared.Header.{Header}
+use Rattle.incremental_header.specs.declared.Header.{Header}
 use Rattle.incremental_text.specs.declared.Index.{Index}
-use Rattle.incremental_text.specs.Header.{headerAt, HeaderBounds}
+use Rattle.incremental_header.specs.Header.{headerAt, HeaderBounds}
 use Rattle.incremental_rules.specs.declared.Cells.{Cells}
 use Rattle.incremental_rules.specs.declared.Found.{Found}
 use Rattle.incremental_rules.specs.declared.Checked.{Checked}

@@ -2,7 +2,7 @@
 use Prim.Native.Nat.{ℕ}
 use Rattle.bytes_at.specs.Stages.{_▷_, orNo}
 use Rattle.manager_file.specs.Start.{longEnough}
-use Rattle.incremental_text.specs.declared.Header.{Header}
+use Rattle.incremental_header.specs.declared.Header.{Header}
 use Rattle.incremental_rules.specs.declared.Checked.{Checked}
 
 -- "A refusal carries its number and zeros."

@@ -4,8 +4,8 @@ ghost use mathlib.Core.Path.{_≡_};
 ghost use Prim.Native.Nat.{_≤_};
 ghost use Rattle.incremental_rules.specs.Rules.{checkedAs};
 ghost use Rattle.incremental.specs.Incremental.{beforeIndex, refusedFile};
+use incremental_header::Header;
 use incremental_rules::Checked;
-use incremental_text::Header;
 use table::Description;
 
 // The refusal before the index is looked at: the one so far, the header's, the file's length (1).
@@ -50,7 +50,7 @@ pub fn check(
     requires { ⌜ d .«column_count» ≤ 64 ⌝ }
     ensures { λ r. ⌜ r ≡ checkedAs d sequence (now (f .entry)) refused position row ⌝ }
 {
-    let h = incremental_text::read_header(f, d.big);
+    let h = incremental_header::read_header(f, d.big);
     let before = before_index(refused, h, f.len());
     if before != 0 {
         return refuse(before);

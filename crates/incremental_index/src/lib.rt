@@ -9,7 +9,7 @@ ghost use Rattle.row_index.specs.Numbers.{numbersAt};
 ghost use Rattle.marks.specs.Different.{allApart};
 ghost use Rattle.incremental_text.specs.Index.{IndexInside};
 ghost use Rattle.incremental_rules.specs.Rules.{firstsFit, indexFits};
-use incremental_text::Header;
+use incremental_header::Header;
 use incremental_text::Index;
 
 // Whether the n buckets whose numbers stand in the file from a place on, and k free buckets from b on, are in range and all

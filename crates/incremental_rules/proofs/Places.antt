@@ -18,9 +18,9 @@ use Rattle.buckets.specs.Chain.{startOf}
 use Rattle.cell_map.specs.Fits.{ceil8}
 use Rattle.cell_map.specs.Demand.{Apart}
 use Rattle.cell_map.proofs.Places.{step}
-use Rattle.incremental_text.specs.declared.Header.{Header}
+use Rattle.incremental_header.specs.declared.Header.{Header}
 use Rattle.incremental_text.specs.declared.Index.{Index}
-use Rattle.incremental_text.specs.Header.{headerAt}
+use Rattle.incremental_header.specs.Header.{headerAt}
 use Rattle.incremental_bucket.specs.Value.{offsetIn}
 use Rattle.incremental_bucket.proofs.Accepted.{InBucket, bucket-read}
 use Rattle.incremental_rules.specs.declared.Cells.{Cells}

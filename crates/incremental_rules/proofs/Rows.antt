@@ -17,7 +17,7 @@ use Rattle.row_index.specs.Numbers.{numbersAt}
 use Rattle.row_index.proofs.Numbers.{numbers-length, number-at}
 use Rattle.marks.specs.Different.{allApart}
 use Rattle.marks.proofs.Apart.{front-below, front-back}
-use Rattle.incremental_text.specs.declared.Header.{Header}
+use Rattle.incremental_header.specs.declared.Header.{Header}
 use Rattle.incremental_text.specs.declared.Index.{Index}
 use Rattle.incremental_bucket.proofs.Last.{last-below, last-passes, last-later}
 use Rattle.incremental_rules.specs.Rules.{risesTo, firstsFit, indexFits}

@@ -23,7 +23,7 @@ use Rattle.buckets.specs.Chain.{links, freeOk}
 use Rattle.cell_map.specs.Tests.{all, pairs}
 use Rattle.row_index.specs.Numbers.{numbersAt}
 use Rattle.marks.specs.Different.{allApart}
-use Rattle.incremental_text.specs.Header.{fieldsAt, headed, headerIn}
+use Rattle.incremental_header.specs.Header.{fieldsAt, headed, headerIn}
 use Rattle.incremental_text.specs.Index.{indexed, indexIn}
 use Rattle.incremental_text.proofs.Vectors.{header, object}
 use Rattle.incremental_values.specs.Values.{startFits, started, startInto, startsAt, offsetInto, offsetsAt}

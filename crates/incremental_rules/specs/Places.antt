@@ -14,9 +14,9 @@ use Rattle.cell_map.specs.Map.{Bits, headerBits}
 use Rattle.cell_map.specs.Fits.{ceil8}
 use Rattle.cell_map.specs.Demand.{Apart, Inside}
 use Rattle.row_index.specs.Numbers.{numberIn}
-use Rattle.incremental_text.specs.declared.Header.{Header}
+use Rattle.incremental_header.specs.declared.Header.{Header}
 use Rattle.incremental_text.specs.declared.Index.{Index}
-use Rattle.incremental_text.specs.Header.{headerAt}
+use Rattle.incremental_header.specs.Header.{headerAt}
 use Rattle.incremental_bucket.specs.Value.{lastBelow, pastPart, offsetIn}
 use Rattle.incremental_rules.specs.Rules.{indexOf, refusalOf}
 

@@ -17,9 +17,9 @@ use Rattle.cell_map.specs.Fits.{ceil8}
 use Rattle.row_index.specs.Numbers.{numberIn, numbersAt}
 use Rattle.marks.specs.Different.{allApart}
 use Rattle.manager_file.specs.Start.{longEnough}
-use Rattle.incremental_text.specs.declared.Header.{Header}
+use Rattle.incremental_header.specs.declared.Header.{Header}
 use Rattle.incremental_text.specs.declared.Index.{Index}
-use Rattle.incremental_text.specs.Header.{headerAt}
+use Rattle.incremental_header.specs.Header.{headerAt}
 use Rattle.incremental_text.specs.Index.{indexAt}
 use Rattle.incremental_bucket.specs.Bucket.{bucketAt}
 use Rattle.incremental_rules.specs.declared.Cells.{Cells}

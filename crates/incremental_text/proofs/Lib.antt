@@ -1,4 +1,3 @@
 -- Laws that proofs of this crate and of those above it cite.
-pub mod HeaderLaws
 pub mod IndexLaws
 pub mod Vectors

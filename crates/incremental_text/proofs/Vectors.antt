@@ -10,7 +10,7 @@ use Rattle.bytes_at.specs.Bytes.{sameBytes}
 use Rattle.bytes_at.specs.Steps.{_>>=_}
 use Rattle.aipsio.specs.Field.{skipped, skippedEach, judged, settled, sizedAt, uintAt, rangedAt, agreed, markAt, textBefore, textAt, nameAt}
 use Rattle.aipsio_objects.specs.Object.{entered, opened, closed, blockAt}
-use Rattle.incremental_text.specs.Header.{fieldsAt, headed, headerIn, headerAt}
+use Rattle.incremental_header.specs.Header.{fieldsAt, headed, headerIn, headerAt}
 use Rattle.incremental_text.specs.Index.{indexed, indexIn, indexAt}
 
 -- the mark and the header object: big endian, 3 buckets of 64 bytes, bucket 2 free

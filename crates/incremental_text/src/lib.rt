@@ -1,30 +1,8 @@
-// The header and the index object of an IncrementalStMan file (document 01, "IncrementalStMan"; Note 260, 3.4.3: Header, Bucket
-// Index).
+// The index object of an IncrementalStMan file (document 01, "IncrementalStMan"; Note 260, 3.4.3: Bucket Index).
 ghost use mathlib.Core.Path.{_≡_};
-ghost use Prim.Native.Nat.{_<_};
 ghost use lib.ListN.{length};
-ghost use Rattle.incremental_text.specs.Header.{fieldsAt, headed, headerAt, HeaderBounds, HeaderWords};
 ghost use Rattle.incremental_text.specs.Index.{indexed, indexAt, IndexInside};
 use aipsio::Cursor;
-use bytes_at::Width;
-
-// The numbers of a header; zeros and the number where it is refused.
-pub struct Header {
-    pub size: usize,
-    pub count: usize,
-    pub free_count: usize,
-    pub first_free: usize,
-    pub refused: usize,
-}
-
-// The header's fields, and the cursor past them.
-pub struct HeaderFields {
-    pub size: usize,
-    pub count: usize,
-    pub free_count: usize,
-    pub first_free: usize,
-    pub next: Cursor,
-}
 
 // The index of a file: the number of its entries, and where in the file its first rows, one more than entries, and its bucket
 // numbers start; zeros and the number where it is refused.
@@ -33,74 +11,6 @@ pub struct Index {
     pub firsts: usize,
     pub buckets: usize,
     pub refused: usize,
-}
-
-// From the object's header to the first free bucket.
-fn read_fields(s: &[u8], c: Cursor, big: bool) -> HeaderFields
-    ensures { λ r. ⌜ r ≡ fieldsAt (now (s .entry)) c big ⌝ }
-    ensures words { λ r. ⌜ (r .«free_count» < 4294967296) × (r .«first_free» < 4294967296) ⌝ }
-{
-    // IncrementalStMan
-    let o = aipsio_objects::open(s, c, 16, 0x496e6372656d656e, 0x74616c53744d616e, 5, 5);
-    let flag = aipsio::flag(s, o.next);
-    let same = manager_file::same_endian(flag.value, big);
-    let d = aipsio::judge(flag.next, o.next.at, same, 6);
-    let size = aipsio::number(s, d, Width::Four, 16, 1048576);
-    let count = aipsio::number(s, size.next, Width::Four, 0, 4096);
-    let cache = aipsio::uint(s, count.next);
-    let unique = aipsio::uint(s, cache.next);
-    let free = aipsio::uint(s, unique.next);
-    let first = aipsio::uint(s, free.next);
-    let next = first.next;
-    HeaderFields {
-        size: size.value,
-        count: count.value,
-        free_count: free.value,
-        first_free: first.value,
-        next: next,
-    }
-}
-
-// The header, or zeros and the number where the cursor is refused.
-fn answer_header(c: Cursor, h: HeaderFields) -> Header
-    ensures { λ r. ⌜ r ≡ headed c h ⌝ }
-{
-    let refused = c.refused;
-    if refused != 0 {
-        return Header {
-            size: 0,
-            count: 0,
-            free_count: 0,
-            first_free: 0,
-            refused: refused,
-        };
-    }
-    Header {
-        size: h.size,
-        count: h.count,
-        free_count: h.free_count,
-        first_free: h.first_free,
-        refused: 0,
-    }
-}
-
-// The header of a file, in a table of the endianness given.
-pub fn read_header(f: &[u8], big: bool) -> Header
-    ensures { λ r. ⌜ r ≡ headerAt (now (f .entry)) big ⌝ }
-    ensures bounded { λ r. ⌜ HeaderBounds r ⌝ }
-    ensures words { λ r. ⌜ HeaderWords r ⌝ }
-{
-    let room = manager_file::header_room(f.len());
-    let start = Cursor {
-        at: 0,
-        end: room,
-        big: 1,
-        refused: 0,
-    };
-    let m = aipsio::mark(f, start);
-    let h = read_fields(f, m, big);
-    let e = aipsio_objects::close(h.next, m);
-    answer_header(e, h)
 }
 
 // The index, or zeros and the number where the cursor is refused.

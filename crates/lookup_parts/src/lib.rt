@@ -2,9 +2,8 @@
 // about, and the fresh plan.
 ghost use mathlib.Core.Path.{_≡_};
 ghost use mathlib.Core.Bool.{cond};
-ghost use Prim.Native.Nat.{ℕ, _≤_, _<_};
-ghost use lib.Dec.{eqb, ltb};
-ghost use lib.ListN.{getD};
+ghost use Prim.Native.Nat.{_≤_, _<_};
+ghost use lib.Dec.{ltb};
 ghost use Rattle.column_desc.specs.ColumnDesc.{blank};
 ghost use Rattle.column_set.specs.ColumnSet.{noBinding};
 ghost use Rattle.table.specs.declared.Description.{Description};
@@ -116,13 +115,13 @@ pub fn find_target(
 {
     let position = question_parts::position_of(q);
     let column = question_parts::is_column(q, columns);
-    let r1 = question_parts::stage(refused, column, 8);
+    let r1 = question_tests::stage(refused, column, 8);
     let sequence = question_parts::sequence_of(q, b.sequence as usize);
     let kind = kind_with(managers, count, sequence);
     let t = c.datatype;
     let placed = question_parts::is_placed(q, t.number as usize);
     let held = is_held(kind, placed);
-    let r2 = question_parts::stage(r1, held, 8);
+    let r2 = question_tests::stage(r1, held, 8);
     let incremental = is_incremental(kind);
     Target {
         refused: r2,

@@ -37,9 +37,9 @@ use Rattle.standard_text.specs.declared.Sets.{Sets}
 use Rattle.manager_file.specs.Start.{headerRoom}
 use Rattle.standard_header.specs.Header.{bucketFieldsAt, indexFieldsAt, headed, headerIn, headerAt}
 use Rattle.standard_text.specs.Index.{setAt, setInto, setsAt, indexed, indexIn, indexAt}
-use Rattle.incremental_text.specs.declared.HeaderFields.{HeaderFields}
+use Rattle.incremental_header.specs.declared.HeaderFields.{HeaderFields}
 use Rattle.incremental_text.specs.declared.Index.{Index}
-use Rattle.incremental_text.specs.Header.{fieldsAt, headed as incrementalHeaded, headerIn as incrementalHeaderIn, headerAt as incrementalHeader}
+use Rattle.incremental_header.specs.Header.{fieldsAt, headed as incrementalHeaded, headerIn as incrementalHeaderIn, headerAt as incrementalHeader}
 use Rattle.incremental_text.specs.Index.{indexed as incrementalIndexed, indexIn as incrementalIndexIn, indexAt as incrementalIndex}
 use Rattle.incremental_values.specs.declared.Starts.{Starts}
 use Rattle.incremental_values.specs.Values.{started, startInto, startsAt, offsetInto, offsetsAt}

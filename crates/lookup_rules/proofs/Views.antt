@@ -22,7 +22,7 @@ use Rattle.cell_map.proofs.Places.{every-two}
 use Rattle.manager_file.specs.Start.{longEnough}
 use Rattle.standard_header.specs.Header.{headerAt}
 use Rattle.standard_rules.specs.Rules.{mapOf, refusalOf}
-use Rattle.incremental_text.specs.Header.{headerAt as incrementalHeader}
+use Rattle.incremental_header.specs.Header.{headerAt as incrementalHeader}
 use Rattle.incremental_rules.specs.Rules.{refusalOf as incrementalRefusal}
 use Rattle.incremental_rules.specs.Places.{placeOf as incrementalPlace, bitOf}
 use Rattle.lookup_rules.specs.declared.Plan.{Plan}

@@ -7,7 +7,7 @@ use Rattle.table.specs.Table.{describedAs}
 use Rattle.cell_map.specs.Map.{Bits}
 use Rattle.cell_map.specs.Demand.{Demand3}
 use Rattle.standard_rules.specs.Rules.{mapOf}
-use Rattle.incremental_text.specs.Header.{headerAt as incrementalHeader}
+use Rattle.incremental_header.specs.Header.{headerAt as incrementalHeader}
 use Rattle.incremental_rules.specs.Rules.{indexOf}
 use Rattle.incremental_rules.specs.Places.{Safe}
 use Rattle.lookup_rules.specs.declared.Asked.{Asked}

@@ -22,12 +22,12 @@ fn finish(q: Question, g: Target, m: FileChecked, rows: usize) -> Staged
 {
     let p = lookup_parts::plan_for(g, m);
     let s = m.set;
-    let fresh = question_parts::fresh(q, p);
-    let r1 = question_parts::stage(m.refused, fresh, 12);
-    let below = question_parts::below(q, rows);
-    let r2 = question_parts::stage(r1, below, 9);
-    let seen = question_parts::seen(q, g.incremental, p.datatype);
-    let r3 = question_parts::stage(r2, seen, 14);
+    let fresh = question_tests::fresh(q, p);
+    let r1 = question_tests::stage(m.refused, fresh, 12);
+    let below = question_tests::below(q, rows);
+    let r2 = question_tests::stage(r1, below, 9);
+    let seen = question_tests::seen(q, g.incremental, p.datatype);
+    let r3 = question_tests::stage(r2, seen, 14);
     Staged {
         refused: r3,
         plan: p,

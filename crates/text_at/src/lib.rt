@@ -1,6 +1,6 @@
 // Texts in bytes: whether a part of a file is a text that is given, as a slice or as the numbers in its first and last bytes.
 ghost use mathlib.Core.Path.{_≡_};
-ghost use Prim.Native.Nat.{_+_, _-_, _≤_, _<_};
+ghost use Prim.Native.Nat.{_-_, _≤_};
 ghost use lib.ListN.{length, take, drop};
 ghost use Rattle.bytes_at.specs.Bytes.{sameBytes, joined, Joins, endOf, textOf};
 

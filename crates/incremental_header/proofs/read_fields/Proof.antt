@@ -1,10 +1,10 @@
--- `incremental_text::read_fields` meets its contract: its calls compose as the definition says, and a uInt is below 2^32.
+-- `incremental_header::read_fields` meets its contract: its calls compose as the definition says, and a uInt is below 2^32.
 use borrow.Author.Needs.{needs}
 use mathlib.Core.Path.{refl}
 use Rattle.bytes_at.proofs.Stepped.{via, free}
-use Rattle.incremental_text.specs.Header.{fieldsAt}
-use Rattle.incremental_text.proofs.read_fields.Statement.{statement}
-use Rattle.incremental_text.proofs.read_fields.Tie as tie
+use Rattle.incremental_header.specs.Header.{fieldsAt}
+use Rattle.incremental_header.proofs.read_fields.Statement.{statement}
+use Rattle.incremental_header.proofs.read_fields.Tie as tie
 
 returns : tie.Need-returns
 unfolding fieldsAt

@@ -1,7 +1,7 @@
--- `question_parts::below` meets its contract.
+-- `question_tests::below` meets its contract.
 use borrow.Author.Needs.{needs}
-use Rattle.question_parts.proofs.below.Statement.{statement}
-use Rattle.question_parts.proofs.below.Tie as tie
+use Rattle.question_tests.proofs.below.Statement.{statement}
+use Rattle.question_tests.proofs.below.Tie as tie
 
 pub below-spec : {M : Type 1} → statement M
 below-spec =

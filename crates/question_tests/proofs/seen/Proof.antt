@@ -1,8 +1,8 @@
--- `question_parts::seen` meets its contract.
+-- `question_tests::seen` meets its contract.
 use borrow.Author.Needs.{needs}
 use Rattle.bytes_at.proofs.Stepped.{free}
-use Rattle.question_parts.proofs.seen.Statement.{statement}
-use Rattle.question_parts.proofs.seen.Tie as tie
+use Rattle.question_tests.proofs.seen.Statement.{statement}
+use Rattle.question_tests.proofs.seen.Tie as tie
 
 pub seen-spec : {M : Type 1} → statement M
 seen-spec =

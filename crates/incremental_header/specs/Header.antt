@@ -11,8 +11,8 @@ use Rattle.aipsio.specs.declared.Cursor.{Cursor}
 use Rattle.aipsio.specs.Field.{judged, uintAt, numberAt, markAt, flagAt}
 use Rattle.aipsio_objects.specs.Object.{opened, closed}
 use Rattle.manager_file.specs.Start.{headerRoom, sameEndian}
-use Rattle.incremental_text.specs.declared.HeaderFields.{HeaderFields}
-use Rattle.incremental_text.specs.declared.Header.{Header}
+use Rattle.incremental_header.specs.declared.HeaderFields.{HeaderFields}
+use Rattle.incremental_header.specs.declared.Header.{Header}
 
 -- "Header version 5", "Bool as above" (else 6), "bucket size 16 to 1,048,576", "buckets 0 to 4,096", cache size, unique column
 -- number, number of free buckets, first free bucket; "its line 'columns added' is no field"

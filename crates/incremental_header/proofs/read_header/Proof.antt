@@ -1,10 +1,10 @@
--- `incremental_text::read_header` meets its contract: its calls compose as the definition says, and its numbers are in range.
+-- `incremental_header::read_header` meets its contract: its calls compose as the definition says, and its numbers are in range.
 use denote.Ref.{now}
 use Rattle.bytes_at.proofs.Stepped.{via, free}
-use Rattle.incremental_text.specs.Header.{headerIn}
-use Rattle.incremental_text.proofs.HeaderLaws.{headed-words, header-answered}
-use Rattle.incremental_text.proofs.read_header.Statement.{statement}
-use Rattle.incremental_text.proofs.read_header.Tie as tie
+use Rattle.incremental_header.specs.Header.{headerIn}
+use Rattle.incremental_header.proofs.HeaderLaws.{headed-words, header-answered}
+use Rattle.incremental_header.proofs.read_header.Statement.{statement}
+use Rattle.incremental_header.proofs.read_header.Tie as tie
 
 returns : tie.Need-returns
 unfolding headerIn

@@ -1,8 +1,8 @@
--- `question_parts::same_plan` meets its contract: its calls compose as the definition says.
+-- `question_tests::same_plan` meets its contract: its calls compose as the definition says.
 use Rattle.bytes_at.proofs.Stepped.{via, free}
 use Rattle.lookup_rules.specs.Questions.{samePlan}
-use Rattle.question_parts.proofs.same_plan.Statement.{statement}
-use Rattle.question_parts.proofs.same_plan.Tie as tie
+use Rattle.question_tests.proofs.same_plan.Statement.{statement}
+use Rattle.question_tests.proofs.same_plan.Tie as tie
 
 returns : tie.Need-returns
 unfolding samePlan

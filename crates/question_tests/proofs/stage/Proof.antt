@@ -1,8 +1,8 @@
--- `question_parts::stage` meets its contract.
+-- `question_tests::stage` meets its contract.
 use borrow.Author.Tests.{eq-eqb, ne-eqb}
 use Rattle.bytes_at.specs.Stages.{_▷_, orNo}
-use Rattle.question_parts.proofs.stage.Statement.{statement}
-use Rattle.question_parts.proofs.stage.Tie as tie
+use Rattle.question_tests.proofs.stage.Statement.{statement}
+use Rattle.question_tests.proofs.stage.Tie as tie
 
 returns : tie.Need-returns
 unfolding _▷_

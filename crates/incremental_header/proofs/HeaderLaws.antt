@@ -13,9 +13,9 @@ use Rattle.aipsio.proofs.Kept.{Clean, clean-before, uint-reads, ranged-reads, _
 use Rattle.aipsio_objects.proofs.Kept.{closed-keeps}
 use Rattle.aipsio.proofs.Accepted.{ranged-within}
 use Rattle.aipsio.proofs.Bounds.{ranged-le}
-use Rattle.incremental_text.specs.declared.HeaderFields.{HeaderFields}
-use Rattle.incremental_text.specs.declared.Header.{Header}
-use Rattle.incremental_text.specs.Header.{fieldsAt, headed, headerIn, HeaderBounds, HeaderWords}
+use Rattle.incremental_header.specs.declared.HeaderFields.{HeaderFields}
+use Rattle.incremental_header.specs.declared.Header.{Header}
+use Rattle.incremental_header.specs.Header.{fieldsAt, headed, headerIn, HeaderBounds, HeaderWords}
 
 -- the fields
 pub record FieldBounds (h : HeaderFields) : Type 0 where
