@@ -2,7 +2,7 @@
 -- Assumes nothing.
 use mathlib.Core.Path.{_≡_, refl, sym, ap, _∙_}
 use mathlib.Core.List.{List}
-use mathlib.Core.Bool.{Bool, true, false, cond, _&&_, false≢true}
+use mathlib.Core.Bool.{Bool, true, false, cond, _&&_, and-eq-true-iff}
 use Prim.Native.Nat.{ℕ, suc, _+_, _*_, _/_, _≤_}
 use native.Mathlib.Omega.{arith}
 use native.Mathlib.Nat.{mul-le-mul-right, div-mul-le-self}
@@ -29,10 +29,6 @@ pub passed-test : (t : Bool) (x y : Cursor) → Refused y → Clean (cond t x y)
 passed-test true x y h e = (refl, e)
 passed-test false x y h e = absurd (h e)
 
-and-both : (a b : Bool) → a && b ≡ true → (a ≡ true) × (b ≡ true)
-and-both true b h = (refl, h)
-and-both false b h = absurd (false≢true h)
-
 pub not-zero : (n : ℕ) → suc n ≡ 0 → ⊥
 not-zero n e = omega arith
 
@@ -52,7 +48,7 @@ module _ (c : Cursor) (from : ℕ) (ok : Bool) (n : ℕ) (e : Clean (judged c fr
 -- a number of a range
 pub judged-within : (c : Cursor) (from v low high n : ℕ) → Clean (judged c from (leb low v && leb v high) (suc n)) → (low ≤ v) × (v ≤ high)
 judged-within c from v low high n e =
-    let t = and-both (leb low v) (leb v high) (judged-passed c from _ n e .1) in
+    let t = and-eq-true-iff (leb low v) (leb v high) .0 (judged-passed c from _ n e .1) in
     (leb-true low v (t .0), leb-true v high (t .1))
 
 -- the field's bytes are there

@@ -11,7 +11,7 @@ use lib.ListN.{getD}
 use lib.Dec.{T, eqb, ltb, ltb→lt, eqb→eq}
 use store.Enc.{and-l, and-r}
 use borrow.Author.Tests.{eq-eqb, ne-eqb}
-use Rattle.buckets.proofs.Passed.{both, fails}
+use Rattle.cell_map.proofs.Tests.{both, is-false}
 use Rattle.buckets.specs.Chain.{nextOf, againOf, noBucket, links, chainOk, freeOk}
 
 -- ---- k numbers below n that are all different: k is at most n
@@ -100,7 +100,7 @@ module _ (f : List ℕ) (size nb : ℕ) (few : nb ≤ 4096) where
 
   -- what is stated to have more is wrong
   pub free-many : (k b : ℕ) → nb < k → freeOk f size nb k b ≡ false
-  free-many k b h = fails (freeOk f size nb k b) (λ t. omega (arith, free-few k b t))
+  free-many k b h = is-false (freeOk f size nb k b) (λ t. omega (arith, free-few k b t))
 
   pub chain-many : (k b : ℕ) → nb < k → chainOk f size nb k b ≡ false
-  chain-many k b h = fails (chainOk f size nb k b) (λ t. omega (arith, chain-few k b t))
+  chain-many k b h = is-false (chainOk f size nb k b) (λ t. omega (arith, chain-few k b t))

@@ -14,7 +14,7 @@ use lib.Dec.{leb}
 use borrow.Author.Tests.{le-leb, lt-leb, leb-true, eq-eqb, ne-eqb}
 use Rattle.bytes_at.specs.Number.{uintOf}
 use Rattle.buckets.specs.Chain.{startOf, Area, nextOf, noBucket, chainOk, chainText, chainHolds}
-use Rattle.buckets.proofs.Passed.{passed}
+use Rattle.cell_map.proofs.Tests.{passed}
 use Rattle.buckets.proofs.Links.{start-in, chain-step, chain-range, chain-twice, text-step, body-long, text-long}
 use Rattle.buckets.proofs.Counted.{chain-many}
 

@@ -1,5 +1,4 @@
 -- Laws that proofs of this crate and of those above it cite.
-pub mod Passed
 pub mod Links
 pub mod Counted
 pub mod Gathered

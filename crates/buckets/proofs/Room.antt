@@ -13,7 +13,7 @@ use lib.Dec.{T, leb, ltb, eqb, leb→le, ltb→lt}
 use store.Enc.{and-l, and-r}
 use borrow.Author.Tests.{le-ltb, lt-ltb, le-leb, lt-leb, eq-eqb, ne-eqb}
 use Rattle.buckets.specs.Chain.{startOf, Area, chainOk, chainText, chainHolds, offsetOk, offsetText, indexOk, indexText, padded}
-use Rattle.buckets.proofs.Passed.{passed}
+use Rattle.cell_map.proofs.Tests.{passed}
 use Rattle.buckets.proofs.Links.{start-in, text-long}
 use Rattle.buckets.proofs.Gathered.{Chained}
 

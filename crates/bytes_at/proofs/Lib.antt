@@ -9,3 +9,4 @@ pub mod Searched
 pub mod Cleared
 pub mod Copied
 pub mod Stages
+pub mod Past

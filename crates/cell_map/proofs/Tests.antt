@@ -33,6 +33,16 @@ pub is-false : (t : Bool) → (T t → ⊥) → t ≡ false
 is-false true h = absurd (h tt)
 is-false false h = refl
 
+pub passed : {t : Bool} → t ≡ true → T t
+passed e = rw e tt
+
+-- two tests that pass together
+pub alike : (a b : Bool) → (T a → T b) → (T b → T a) → a ≡ b
+alike true true h k = refl
+alike true false h k = absurd (h tt)
+alike false true h k = absurd (k tt)
+alike false false h k = refl
+
 -- ---- over a list
 pub all-at : {A : Type 0} (f : A → Bool) (l : List A) (d : A) → T (all f l) → (i : ℕ) → i < length l → T (f (getD l i d))
 unfolding all

@@ -1,7 +1,7 @@
 -- Names of types, bare or filled with spaces to eight characters.
 -- Assumes nothing.
 use mathlib.Core.Path.{_≡_, refl, sym, ap, _∙_}
-use mathlib.Core.Bool.{Bool, true, false, _&&_, _||_, false≢true}
+use mathlib.Core.Bool.{Bool, true, false, _&&_, _||_, false≢true, and-eq-true-iff}
 use mathlib.Core.List.{List, [], _∷_, _++_}
 use mathlib.Core.Logic.{_⊎_, inl, inr}
 use Prim.Native.Nat.{ℕ, _+_, _≤_, _<_}
@@ -48,17 +48,13 @@ module _ (s name : List ℕ) {whole : List ℕ} {len : ℕ} {r : Bool} (w : whol
   pub name-filled : {r′ : Bool} → r ≡ false → r′ ≡ sameBytes s whole → r′ ≡ isName s name
   name-filled h e′ = rw (bare ∙ h, ← w) e′
 
-both : (p q : Bool) → p && q ≡ true → (p ≡ true) × (q ≡ true)
-both true q h = (refl, h)
-both false q h = absurd (false≢true h)
-
 -- bytes that compare as the same are the same
 pub same-is : (a b : List ℕ) → sameBytes a b ≡ true → a ≡ b
 unfolding sameBytes
 same-is [] [] h = refl
 same-is [] (y ∷ b) h = absurd (false≢true h)
 same-is (x ∷ a) [] h = absurd (false≢true h)
-same-is (x ∷ a) (y ∷ b) h = let k = both (eqb x y) (sameBytes a b) h in rw (eqb-true x y (k .0), same-is a b (k .1))
+same-is (x ∷ a) (y ∷ b) h = let k = and-eq-true-iff (eqb x y) (sameBytes a b) .0 h in rw (eqb-true x y (k .0), same-is a b (k .1))
 
 either : (p q : Bool) → p || q ≡ true → (p ≡ true) ⊎ (q ≡ true)
 either true q h = inl refl

@@ -10,7 +10,7 @@ use lib.ListN.{length}
 use Rattle.bytes_at.specs.Stages.{_▷_, orNo}
 use Rattle.bytes_at.proofs.Stages.{then-left, then-right, or-passed, stops, goes, regroup, no-is, yes-is}
 use Rattle.buckets.specs.Chain.{Area, startOf, freeOk}
-use Rattle.buckets.proofs.Passed.{passed}
+use Rattle.cell_map.proofs.Tests.{passed}
 use Rattle.cell_map.proofs.Places.{step}
 use Rattle.row_index.specs.Numbers.{numberIn}
 use Rattle.table.specs.declared.Description.{Description}

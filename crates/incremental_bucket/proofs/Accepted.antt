@@ -35,7 +35,7 @@ fits-first i v last rows z e = go (leb rows v) refl
     go true q = absurd (false≢true (rw q at e))
     go false q = eqb-true v 0 (rw (q, eq-eqb i 0 z) at e)
 
-started-next : (c : Cursor) (last hit : ℕ) → started c last hit .next ≡ c
+pub started-next : (c : Cursor) (last hit : ℕ) → started c last hit .next ≡ c
 started-next c last hit =
     elim (ℕ-discrete (c .refused) 0) [
       | yes h ↦ rw (← (started-on c last hit h))

@@ -43,7 +43,7 @@ module _ (cs : List Column) (bs : List Binding) (sequence position position′ :
   cells-same (suc n) = cell-same _ _ n (cells-same n)
 
 -- a refusal is kept as it is
-found-refused : (refused start offset : ℕ) → foundAs refused start offset .refused ≡ refused
+pub found-refused : (refused start offset : ℕ) → foundAs refused start offset .refused ≡ refused
 unfolding foundAs
 found-refused refused start offset =
     elim (ℕ-discrete refused 0) [

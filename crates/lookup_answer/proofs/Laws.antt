@@ -1,6 +1,6 @@
 -- The room afterwards: kept or cleared. Assumes nothing.
 use mathlib.Core.Path.{_≡_, refl, sym, ap, _∙_}
-use mathlib.Core.Bool.{Bool, true, false, _&&_, not}
+use mathlib.Core.Bool.{Bool, true, false, _&&_, not, false≢true}
 use mathlib.Core.List.{List}
 use Prim.Native.Nat.{ℕ}
 use native.Mathlib.Decide.{ℕ-discrete}
@@ -14,16 +14,15 @@ use Rattle.standard_rules.specs.Rules.{textOf}
 use Rattle.lookup_rules.specs.declared.Question.{Question}
 use Rattle.lookup_rules.specs.declared.Staged.{Staged}
 use Rattle.lookup_rules.specs.Questions.{stagesOf, roomAfter}
-use Rattle.lookup_stages.proofs.Laws.{false-true}
 use Rattle.lookup_answer.specs.Answering.{keepsText, settled}
 
 -- what is kept is not refused, and is a StandardStMan's
 kept-first : (n : ℕ) (i : Bool) → eqb n 0 && not i ≡ true → n ≡ 0
-kept-first n i h = elim (ℕ-discrete n 0) [ yes e ↦ e | no x ↦ absurd (false-true (rw (ne-eqb n 0 x) at h)) ]
+kept-first n i h = elim (ℕ-discrete n 0) [ yes e ↦ e | no x ↦ absurd (false≢true (rw (ne-eqb n 0 x) at h)) ]
 
 kept-second : (n : ℕ) (i : Bool) → eqb n 0 && not i ≡ true → i ≡ false
 kept-second n false h = refl
-kept-second n true h = elim (ℕ-discrete n 0) [ yes e ↦ absurd (false-true (rw (eq-eqb n 0 e) at h)) | no x ↦ absurd (false-true (rw (ne-eqb n 0 x) at h)) ]
+kept-second n true h = elim (ℕ-discrete n 0) [ yes e ↦ absurd (false≢true (rw (eq-eqb n 0 e) at h)) | no x ↦ absurd (false≢true (rw (ne-eqb n 0 x) at h)) ]
 
 -- `keeps_text`
 pub keeps-refused : (s : Staged) → (s .refused ≡ 0 → ⊥) → false ≡ keepsText s

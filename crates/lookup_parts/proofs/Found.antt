@@ -18,7 +18,7 @@ use Rattle.lookup_rules.specs.declared.Question.{Question}
 use Rattle.lookup_rules.specs.declared.Target.{Target}
 use Rattle.lookup_rules.specs.Questions.{positionOf, sequenceOf, isColumn, kindWith, isIncremental, isPlaced, isHeld, targetOf}
 use Rattle.lookup_parts.specs.Taken.{Taken}
-use Rattle.lookup_parts.proofs.Past.{past}
+use Rattle.bytes_at.proofs.Past.{past}
 
 -- the kind of the manager that is found
 pub kind-is : (managers : List Manager) (n sequence i : ℕ) {k : Kind} → i ≡ firstBelow (λ (k : ℕ). eqb (getD managers k noManager .number) sequence) n

@@ -42,10 +42,12 @@ use Rattle.incremental_text.specs.declared.Index.{Index}
 use Rattle.incremental_header.specs.Header.{fieldsAt, headed as incrementalHeaded, headerIn as incrementalHeaderIn, headerAt as incrementalHeader}
 use Rattle.incremental_text.specs.Index.{indexed as incrementalIndexed, indexIn as incrementalIndexIn, indexAt as incrementalIndex}
 use Rattle.incremental_values.specs.declared.Starts.{Starts}
-use Rattle.incremental_values.specs.Values.{started, startInto, startsAt, offsetInto, offsetsAt}
+use Rattle.incremental_values.specs.Values.{startInto, startsAt, offsetInto, offsetsAt}
 use Rattle.incremental_bucket.specs.Bucket.{dataAt, columnAt as partColumnAt, columnInto as partColumnInto, columnsAt as partColumnsAt, orderOf, bucketAt}
+use Rattle.incremental_bucket.proofs.Accepted.{started-next}
+use Rattle.incremental_rules.proofs.AnyCell.{found-refused}
 use Rattle.incremental_rules.specs.declared.Cells.{Cells}
-use Rattle.incremental_rules.specs.Rules.{foundAs, bucketInto, nothing}
+use Rattle.incremental_rules.specs.Rules.{bucketInto, nothing}
 
 -- d, read on from c, has no refusal above 11 of its own
 record Low (c d : Cursor) : Type 0 where
@@ -406,10 +408,6 @@ incremental-index-low s at =
     rw incremental-indexed-is (last .low zero-le)
 
 -- a bucket
-started-next : (c : Cursor) (last hit : ℕ) → started c last hit .next ≡ c
-unfolding started
-started-next c last hit = elim (ℕ-discrete (c .refused) 0) [ yes e ↦ rw (eq-eqb (c .refused) 0 e) | no n ↦ rw (ne-eqb (c .refused) 0 n) ]
-
 module _ (s : List ℕ) (c : Cursor) where
   data-low : (size : ℕ) → Low c (dataAt s c size .next)
   unfolding dataAt _>>=_
@@ -444,11 +442,6 @@ bucket-low f at size big rows row column bytes n =
     last .low zero-le
 
 -- the buckets in turn
-found-is : (refused start offset : ℕ) → foundAs refused start offset .refused ≡ refused
-unfolding foundAs
-found-is refused start offset =
-    elim (ℕ-discrete refused 0) [ yes e ↦ rw (eq-eqb refused 0 e) (sym e) | no n ↦ rw (ne-eqb refused 0 n) ]
-
 first-low : (a b : ℕ) → a ≤ 11 → b ≤ 11 → (a ▷ b) ≤ 11
 unfolding _▷_
 first-low a b h k = elim (ℕ-discrete a 0) [ yes e ↦ rw (eq-eqb a 0 e) k | no n ↦ rw (ne-eqb a 0 n) h ]
@@ -458,4 +451,4 @@ pub search-low : (big : Bool) (f : List ℕ) (size : ℕ) (x : Index) (cells : C
 unfolding after bucketInto _>>=_
 search-low big f size x cells row zero = zero-le
 search-low big f size x cells row (suc n) =
-    rw found-is (first-low _ _ (search-low big f size x cells row n) (bucket-low f _ size big _ _ _ _ _))
+    rw found-refused (first-low _ _ (search-low big f size x cells row n) (bucket-low f _ size big _ _ _ _ _))

@@ -1,6 +1,6 @@
 -- What no refusal shows, and what a question takes of a table. Assumes nothing.
 use mathlib.Core.Path.{_≡_, refl, sym, ap, _∙_}
-use mathlib.Core.Bool.{Bool, true, false, cond}
+use mathlib.Core.Bool.{Bool, true, false, cond, false≢true}
 use mathlib.Core.List.{List}
 use Prim.Native.Nat.{ℕ, _<_}
 use native.Mathlib.Decide.{decLt}
@@ -32,9 +32,6 @@ use Rattle.lookup_rules.proofs.Described.{described}
 use Rattle.lookup_parts.specs.Taken.{Taken}
 use Rattle.lookup_stages.specs.Stages.{Reached}
 
-pub false-true : false ≡ true → ⊥
-false-true h = let n : _≡_ {A = ℕ} 0 1 = cc in omega arith
-
 -- the stages after the file's check
 pub passed : (n : ℕ) (b1 b2 b3 : Bool) {r1 r2 r3 : ℕ} → r1 ≡ n ▷ orNo b1 12 → r2 ≡ r1 ▷ orNo b2 9 → r3 ≡ r2 ▷ orNo b3 14 → r3 ≡ 0 → n ≡ 0
 passed n b1 b2 b3 {r1} {r2} e1 e2 e3 z =
@@ -48,7 +45,7 @@ pub room-text : (t f : List ℕ) (l : ℕ) {d : Description} {x : List ℕ} → 
 room-text t f l {d} {x} e h = rw (← e) h
 
 pub no-text : {A : Type 0} {i r : Bool} → i ≡ true → r ≡ i → r ≡ false → A
-no-text e q k = absurd (false-true (sym k ∙ q ∙ e))
+no-text e q k = absurd (false≢true (sym k ∙ q ∙ e))
 
 -- the element of 64 at a position, read at a place that is the position's where there is one
 pub picked : {A : Type 0} (xs : List A) (z : A) {i at : ℕ} {r : A} → length xs ≡ 64 → (i < 64 → at ≡ i) → r ≡ cond (ltb i 64) (getD xs at z) z → r ≡ getD xs i z

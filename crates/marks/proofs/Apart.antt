@@ -12,9 +12,8 @@ use store.Enc.{and-l, and-r}
 use Rattle.cell_map.specs.Tests.{all, pairs}
 use Rattle.marks.specs.Different.{allApart}
 use Rattle.cell_map.specs.Fits.{below, unlike}
-use Rattle.cell_map.proofs.Tests.{all-at, pairs-at}
+use Rattle.cell_map.proofs.Tests.{all-at, pairs-at, unlike-not}
 use Rattle.marks.proofs.Tests.{pairs-across}
-use Rattle.marks.proofs.Decided.{unlike-no}
 
 module _ (nb : ℕ) (l : List ℕ) (t : T (allApart nb l)) where
   all-once : T (pairs unlike l)
@@ -28,7 +27,7 @@ module _ (nb : ℕ) (l : List ℕ) (t : T (allApart nb l)) where
 
   -- no two positions hold the same number
   pub no-two : (i j : ℕ) → i < j → j < length l → getD l i 0 ≡ getD l j 0 → ⊥
-  no-two i j h k = unlike-no _ _ (pairs-at unlike l 0 all-once i j h k)
+  no-two i j h k = unlike-not _ _ (pairs-at unlike l 0 all-once i j h k)
 
   pub one-place : (i j : ℕ) → i < length l → j < length l → getD l i 0 ≡ getD l j 0 → i ≡ j
   one-place i j h k e =
@@ -52,7 +51,7 @@ module _ (nb : ℕ) (xs ys : List ℕ) (t : T (allApart nb (xs ++ ys))) where
   front-once i j h k e = one-place nb (xs ++ ys) t i j (front i h .0) (front j k .0) (front i h .1 ∙ e ∙ sym (front j k .1))
 
   pub front-back : (i j : ℕ) → i < length xs → j < length ys → getD xs i 0 ≡ getD ys j 0 → ⊥
-  front-back i j h k = unlike-no _ _ (pairs-across unlike xs ys 0 (all-once nb (xs ++ ys) t) i j h k)
+  front-back i j h k = unlike-not _ _ (pairs-across unlike xs ys 0 (all-once nb (xs ++ ys) t) i j h k)
 
 -- a list and two after it, as StandardStMan's data buckets, index buckets and free buckets
 module _ (nb : ℕ) (xs ys zs : List ℕ) (t : T (allApart nb (xs ++ ys ++ zs))) where

@@ -1,7 +1,7 @@
 -- Marks decide the rule: the numbers of a list are fresh in their turn, from a table with no marks, where and only where they are in
 -- range and all different.
 -- Assumes nothing.
-use mathlib.Core.Path.{_≡_, sym, subst, _∙_}
+use mathlib.Core.Path.{_≡_, sym, _∙_}
 use mathlib.Core.Bool.{Bool, true, false, cond, _&&_}
 use mathlib.Core.List.{List, [], _∷_, _++_, append-assoc}
 use Prim.Native.Nat.{ℕ, _≤_, _<_}
@@ -9,24 +9,21 @@ use native.Mathlib.Decide.{ℕ-discrete}
 use native.Mathlib.Omega.{arith}
 use lib.ListN.{length, getD, set, replicate, length-set, length-replicate, getD-replicate}
 use lib.Seq.{getD-set-same, getD-set-other}
-use lib.Dec.{T, T-not, not-T, ltb, eqb, ltb→lt, lt→ltb, eqb→eq, eqb-refl}
+use lib.Dec.{T, not-T, ltb, eqb, ltb→lt, lt→ltb, eqb→eq}
 use store.Enc.{and-l, and-r}
 use borrow.Author.Tests.{eq-eqb, ne-eqb}
-use Rattle.buckets.proofs.Passed.{both, alike}
+use Rattle.cell_map.proofs.Tests.{both, alike, unlike-not}
 use Rattle.cell_map.specs.Tests.{all, pairs}
 use Rattle.marks.specs.Different.{allApart, isFresh, fresh}
 use Rattle.cell_map.specs.Fits.{below, unlike}
 use Rattle.marks.proofs.Tests.{all-any, all-from, all-from-two}
 use Rattle.marks.proofs.Marking.{Marks, fresh-append}
 
-pub unlike-no : (a b : ℕ) → T (unlike a b) → a ≡ b → ⊥
-unlike-no a b t e = T-not (eqb a b) t (subst (λ (k : ℕ). T (eqb a k)) e (eqb-refl a))
-
 pub unlike-yes : (a b : ℕ) → (a ≡ b → ⊥) → T (unlike a b)
 unlike-yes a b h = not-T (eqb a b) (λ t. h (eqb→eq a b t))
 
 unlike-swap : (a b : ℕ) → T (unlike a b) → T (unlike b a)
-unlike-swap a b t = unlike-yes b a (λ e. unlike-no a b t (sym e))
+unlike-swap a b t = unlike-yes b a (λ e. unlike-not a b t (sym e))
 
 -- b is not in s
 abbrev absent : List ℕ → ℕ → Bool

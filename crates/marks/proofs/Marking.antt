@@ -11,7 +11,7 @@ use lib.Dec.{eqb, ltb, ltb→lt}
 use store.Enc.{and-l}
 use borrow.Author.Tests.{lt-ltb, le-ltb, eq-eqb, ne-eqb}
 use Rattle.bytes_at.specs.Number.{uintOf}
-use Rattle.buckets.proofs.Passed.{passed}
+use Rattle.cell_map.proofs.Tests.{passed}
 use Rattle.marks.specs.Different.{isFresh, fresh, marked}
 use Rattle.row_index.specs.Numbers.{numbersAt}
 

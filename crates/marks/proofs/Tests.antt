@@ -8,7 +8,7 @@ use lib.ListN.{length, getD, length-append, List·getD-append}
 use lib.Seq.{getD-append-add}
 use lib.Dec.{T}
 use store.Enc.{and-l, and-r}
-use Rattle.buckets.proofs.Passed.{both}
+use Rattle.cell_map.proofs.Tests.{both}
 use Rattle.cell_map.specs.Tests.{all, pairs}
 use Rattle.cell_map.proofs.Tests.{pairs-at}
 

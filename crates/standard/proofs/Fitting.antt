@@ -1,10 +1,9 @@
 -- The map's test in the groups in which the code decides it, and the ways out. Assumes nothing.
-use mathlib.Core.Path.{_≡_, refl, sym, _∙_}
+use mathlib.Core.Path.{_≡_, refl, sym}
 use mathlib.Core.Bool.{Bool, true, false, _&&_}
 use mathlib.Core.List.{List}
 use Prim.Native.Nat.{ℕ, _≤_}
-use native.Mathlib.Omega.{arith}
-use lib.ListN.{length, getD, List·getD-eq-default}
+use lib.ListN.{length}
 use Rattle.buckets.specs.Chain.{links}
 use Rattle.cell_map.specs.Tests.{all, allFrom, pairs}
 use Rattle.cell_map.specs.Map.{Map, Column as MapColumn}
@@ -72,7 +71,3 @@ map-wrong size set e p = rw (← e) p
 pub map-right : {m g : Bool} {size : ℕ} {set set′ : Set} → g ≡ m → g ≡ true → set ≡ set′ → _≡_ {A = Checked} (record { refused = 0; size = size; set = set }) (mapped m size set′)
 unfolding mapped
 map-right e t p = rw (← e, t, p)
-
--- past the end of n elements stands the default
-pub past : {A : Type 0} {r d : A} {i : ℕ} (n : ℕ) (xs : List A) → r ≡ d → length xs ≡ n → n ≤ i → r ≡ getD xs i d
-past {A} {r} {d} {i} n xs e l h = e ∙ sym (List·getD-eq-default xs d {n = i} (omega arith))

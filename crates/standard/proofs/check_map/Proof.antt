@@ -5,9 +5,10 @@ use mathlib.Core.Path.{refl, sym, _∙_}
 use native.Mathlib.Omega.{arith}
 use borrow.Author.Needs.{needs}
 use borrow.Author.Tests.{not-true, not-false}
+use Rattle.bytes_at.proofs.Past.{past}
 use Rattle.bytes_at.proofs.Stepped.{free}
 use Rattle.standard.proofs.Gathering.{Gathering, gathering-start, gathering-again, lasts-inside, buckets-inside, pers-inside}
-use Rattle.standard.proofs.Fitting.{not-sets, not-columns, last, map-wrong, map-right, past}
+use Rattle.standard.proofs.Fitting.{not-sets, not-columns, last, map-wrong, map-right}
 use Rattle.standard.proofs.check_map.Statement.{statement}
 use Rattle.standard.proofs.check_map.Tie as tie
 
