@@ -62,9 +62,9 @@ pub fn open(
     requires { ⌜ Joins (endOf n) n first last ⌝ }
     ensures { λ r. ⌜ r ≡ opened (now (s .entry)) c (textOf n first last) low high ⌝ }
 {
-    let len = aipsio::uint(s, c);
+    let len = aipsio_numbers::uint(s, c);
     let d = aipsio_strings::text_name(s, len.next, n, first, last);
-    let v = aipsio::version(s, d, low, high);
+    let v = aipsio_numbers::version(s, d, low, high);
     let e = enter(v.next, c, len.value);
     aipsio::settle(v.value, e)
 }
@@ -127,7 +127,7 @@ pub fn block(s: &[u8], c: Cursor, n: usize, size: usize) -> Value
 {
     // Block
     let o = open(s, c, 5, 0x426c6f63, 0x6c6f636b, 1, 1);
-    let k = aipsio::agree(s, o.next, n);
+    let k = aipsio_numbers::agree(s, o.next, n);
     let e = aipsio::skip_each(k, n, size);
     let d = close(e, c);
     aipsio::settle(k.at, d)
@@ -139,9 +139,9 @@ pub fn map(s: &[u8], c: Cursor) -> Cursor
 {
     // SimpleOrderedMap
     let o = open(s, c, 16, 0x53696d706c654f72, 0x64657265644d6170, 1, 1);
-    let default = aipsio::uint(s, o.next);
-    let n = aipsio::uint(s, default.next);
-    let increment = aipsio::uint(s, n.next);
+    let default = aipsio_numbers::uint(s, o.next);
+    let n = aipsio_numbers::uint(s, default.next);
+    let increment = aipsio_numbers::uint(s, n.next);
     let e = aipsio::skip_each(increment.next, n.value, 8);
     close(e, c)
 }
@@ -162,7 +162,7 @@ pub fn iposition(s: &[u8], c: Cursor) -> Cursor
 {
     // IPosition
     let o = open(s, c, 9, 0x49506f736974696f, 0x506f736974696f6e, 1, 2);
-    let n = aipsio::uint(s, o.next);
+    let n = aipsio_numbers::uint(s, o.next);
     let width = axis_width(o.value);
     let e = aipsio::skip_each(n.next, n.value, width.bytes());
     close(e, c)
@@ -174,7 +174,7 @@ fn add_axis(s: &[u8], product: Value, width: Width) -> Value
     ensures { λ r. ⌜ r ≡ axisInto (now (s .entry)) (bytesOf width) product ⌝ }
     ensures bounded { λ r. ⌜ r .value ≤ 1048576 ⌝ }
 {
-    let axis = aipsio::number(s, product.next, width, 1, 1048576);
+    let axis = aipsio_numbers::number(s, product.next, width, 1, 1048576);
     let more = product.value * axis.value;
     let d = aipsio::judge(axis.next, product.next.at, more <= 1048576, 4);
     aipsio::settle(more, d)
@@ -202,7 +202,7 @@ pub fn shape(s: &[u8], c: Cursor, dimensions: usize) -> Value
 {
     // IPosition
     let o = open(s, c, 9, 0x49506f736974696f, 0x506f736974696f6e, 1, 2);
-    let n = aipsio::number(s, o.next, Width::Four, 1, 8);
+    let n = aipsio_numbers::number(s, o.next, Width::Four, 1, 8);
     let k = aipsio::judge(n.next, o.next.at, n.value == dimensions, 5);
     let product = axes(s, k, n.value, axis_width(o.value));
     let d = close(product.next, c);

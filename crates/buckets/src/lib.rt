@@ -1,22 +1,11 @@
-// Buckets of a data manager's file: where one starts, the index text that stands in a chain of them, and the free list
-// (document 01, "StandardStMan" and "IncrementalStMan").
+// Buckets of a data manager's file: where one starts, and the index text that stands in a chain of them (document 01,
+// "StandardStMan" and "IncrementalStMan").
 ghost use mathlib.Core.Path.{_≡_};
 ghost use mathlib.Core.Bool.{true};
 ghost use mathlib.Core.List.{_++_};
 ghost use Prim.Native.Nat.{min, _+_, _*_, _≤_, _<_};
 ghost use lib.ListN.{length, take, drop};
-ghost use Rattle.buckets.specs.Chain.{
-  startOf,
-  Area,
-  chainText,
-  chainHolds,
-  offsetOk,
-  offsetText,
-  indexOk,
-  indexText,
-  padded,
-  freeOk,
-};
+ghost use Rattle.buckets.specs.Chain.{startOf, Area, chainText, chainHolds, offsetOk, offsetText, indexOk, indexText, padded};
 
 // The first byte of bucket b of nb, in a file of len bytes.
 pub fn start_of(size: usize, nb: usize, b: usize, len: usize) -> usize
@@ -128,25 +117,4 @@ pub fn gather_index(
         return gather_chain(f, size, nb, count, first, n, room);
     }
     gather_bucket(f, size, nb, count, first, offset, n, room)
-}
-
-// Whether the free list is right: exactly count buckets, in range, ended by -1.
-pub fn free_list_ok(f: &[u8], size: usize, nb: usize, count: usize, first: usize) -> bool
-    requires { ⌜ Area (now f) size nb ⌝ }
-    ensures { λ r. ⌜ r ≡ freeOk (now (f .entry)) size nb count first ⌝ }
-{
-    if nb < count {
-        return false;
-    }
-    let mut k = count;
-    let mut b = first;
-    while 0 < k {
-        if nb <= b {
-            return false;
-        }
-        let p = start_of(size, nb, b, f.len());
-        b = bytes_at::word(f, p, true);
-        k -= 1;
-    }
-    b == 4294967295
 }

@@ -69,9 +69,9 @@ fn read_head(s: &[u8], c: Cursor) -> Head
     ensures { λ r. ⌜ r ≡ headAt (now (s .entry)) c ⌝ }
     ensures bounded { λ r. ⌜ r .len ≤ 64 ⌝ }
 {
-    let v = aipsio::version(s, c, 1, 1);
+    let v = aipsio_numbers::version(s, c, 1, 1);
     let t = read_type(s, v.next);
-    let w = aipsio::version(s, t.next, 1, 1);
+    let w = aipsio_numbers::version(s, t.next, 1, 1);
     let name = aipsio_strings::string(s, w.next, 1, 64);
     let datatype = t.datatype;
     let next = name.next;

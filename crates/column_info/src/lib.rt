@@ -31,10 +31,10 @@ fn read_sequence(s: &[u8], c: Cursor) -> Sequence
     ensures { λ r. ⌜ r ≡ sequenceAt (now (s .entry)) c ⌝ }
     ensures bounded { λ r. ⌜ r .value < 4294967296 ⌝ }
 {
-    let v = aipsio::version(s, c, 2, 2);
+    let v = aipsio_numbers::version(s, c, 2, 2);
     let name = aipsio_strings::string(s, v.next, 0, 4096);
-    let w = aipsio::version(s, name.next, 1, 1);
-    let q = aipsio::uint(s, w.next);
+    let w = aipsio_numbers::version(s, name.next, 1, 1);
+    let q = aipsio_numbers::uint(s, w.next);
     let next = q.next;
     Sequence {
         value: q.value,
@@ -48,7 +48,7 @@ fn skip_own_shape(s: &[u8], c: Cursor, array: bool) -> Cursor
     ensures { λ r. ⌜ r ≡ ownShapeAt (now (s .entry)) c array ⌝ }
 {
     if array {
-        let own = aipsio::flag(s, c);
+        let own = aipsio_numbers::flag(s, c);
         let next = own.next;
         if own.value == 0 {
             return next;

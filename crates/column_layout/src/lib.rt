@@ -41,7 +41,7 @@ fn read_options(s: &[u8], c: Cursor, array: bool) -> Value
     ensures { λ r. ⌜ r ≡ optionsAt (now (s .entry)) c array ⌝ }
     ensures bounded { λ r. ⌜ r .value ≤ 7 ⌝ }
 {
-    let o = aipsio::code(s, c, 0, 7);
+    let o = aipsio_numbers::code(s, c, 0, 7);
     let ok = options_fit(array, o.value);
     let d = aipsio::judge(o.next, c.at, ok, 5);
     aipsio::settle(o.value, d)
@@ -64,7 +64,7 @@ fn dimensions_fit(array: bool, dimensions: usize) -> bool
 fn read_dimensions(s: &[u8], c: Cursor, array: bool) -> Value
     ensures { λ r. ⌜ r ≡ dimensionsAt (now (s .entry)) c array ⌝ }
 {
-    let n = aipsio::uint(s, c);
+    let n = aipsio_numbers::uint(s, c);
     let ok = dimensions_fit(array, n.value);
     let d = aipsio::judge(n.next, c.at, ok, 5);
     aipsio::settle(n.value, d)
@@ -90,7 +90,7 @@ pub fn read_layout(s: &[u8], c: Cursor, array: bool, number: usize) -> Layout
     ensures { λ r. ⌜ r ≡ layoutAt (now (s .entry)) c array number ⌝ }
     ensures bounded { λ r. ⌜ (r .options ≤ 7) × (r .elements ≤ 1048576) ⌝ }
 {
-    let n = aipsio::code(s, c, number, number);
+    let n = aipsio_numbers::code(s, c, number, number);
     let o = read_options(s, n.next, array);
     let d = read_dimensions(s, o.next, array);
     let e = read_elements(s, d.next, array, o.value, d.value);
@@ -107,11 +107,11 @@ fn skip_default(s: &[u8], c: Cursor, array: bool, bits: usize) -> Cursor
     ensures { λ r. ⌜ r ≡ defaultAt (now (s .entry)) c array bits ⌝ }
 {
     if array {
-        let v = aipsio::flag(s, c);
+        let v = aipsio_numbers::flag(s, c);
         return v.next;
     }
     if bits == 1 {
-        let v = aipsio::flag(s, c);
+        let v = aipsio_numbers::flag(s, c);
         return v.next;
     }
     if bits == 0 {
@@ -126,9 +126,9 @@ pub fn read_tail(s: &[u8], c: Cursor, array: bool, bits: usize) -> Value
     ensures { λ r. ⌜ r ≡ tailAt (now (s .entry)) c array bits ⌝ }
     ensures bounded { λ r. ⌜ r .value ≤ 65536 ⌝ }
 {
-    let m = aipsio::number(s, c, Width::Four, 0, 65536);
+    let m = aipsio_numbers::number(s, c, Width::Four, 0, 65536);
     let keywords = aipsio_objects::record(s, m.next);
-    let v = aipsio::version(s, keywords, 1, 1);
+    let v = aipsio_numbers::version(s, keywords, 1, 1);
     let d = skip_default(s, v.next, array, bits);
     aipsio::settle(m.value, d)
 }

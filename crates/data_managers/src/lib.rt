@@ -88,11 +88,11 @@ pub fn read_head(s: &[u8], c: Cursor, rows: usize) -> Head
     ensures { λ r. ⌜ r ≡ headAt (now (s .entry)) c rows ⌝ }
     ensures bounded { λ r. ⌜ r .count ≤ 16 ⌝ }
 {
-    let v = aipsio::version(s, c, 4294967294, 4294967294);
-    let r = aipsio::number(s, v.next, Width::Four, 0, 2147483647);
+    let v = aipsio_numbers::version(s, c, 4294967294, 4294967294);
+    let r = aipsio_numbers::number(s, v.next, Width::Four, 0, 2147483647);
     let k = aipsio::judge(r.next, v.next.at, r.value == rows, 6);
-    let highest = aipsio::uint(s, k);
-    let n = aipsio::number(s, highest.next, Width::Four, 1, 16);
+    let highest = aipsio_numbers::uint(s, k);
+    let n = aipsio_numbers::number(s, highest.next, Width::Four, 1, 16);
     let next = n.next;
     Head {
         highest: highest.value,
@@ -152,7 +152,7 @@ pub fn read_managers(s: &[u8], c: Cursor, n: usize, highest: usize) -> Managers
     let mut i = 0;
     while i < n {
         let name = aipsio_strings::string(s, next, 0, 4096);
-        let number = aipsio::uint(s, name.next);
+        let number = aipsio_numbers::uint(s, name.next);
         let k = first_number(&numbers, i, number.value);
         let ok = is_new(k, i, number.value, highest);
         let d = aipsio::judge(number.next, name.next.at, ok, 6);

@@ -71,7 +71,7 @@ fn read_column(s: &[u8], c: Cursor, limit: usize, rows: usize, row: usize, bytes
         refused: 0,
     };
     let starts = incremental_values::read_starts(s, d, n, rows, row);
-    incremental_values::read_offsets(s, starts.next, n, limit, bytes, starts.hit)
+    incremental_offsets::read_offsets(s, starts.next, n, limit, bytes, starts.hit)
 }
 
 // The n columns in turn, whose values take so many bytes each. Gives the offset of the row's value in the column.

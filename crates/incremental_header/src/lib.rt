@@ -30,15 +30,15 @@ fn read_fields(s: &[u8], c: Cursor, big: bool) -> HeaderFields
 {
     // IncrementalStMan
     let o = aipsio_objects::open(s, c, 16, 0x496e6372656d656e, 0x74616c53744d616e, 5, 5);
-    let flag = aipsio::flag(s, o.next);
+    let flag = aipsio_numbers::flag(s, o.next);
     let same = manager_file::same_endian(flag.value, big);
     let d = aipsio::judge(flag.next, o.next.at, same, 6);
-    let size = aipsio::number(s, d, Width::Four, 16, 1048576);
-    let count = aipsio::number(s, size.next, Width::Four, 0, 4096);
-    let cache = aipsio::uint(s, count.next);
-    let unique = aipsio::uint(s, cache.next);
-    let free = aipsio::uint(s, unique.next);
-    let first = aipsio::uint(s, free.next);
+    let size = aipsio_numbers::number(s, d, Width::Four, 16, 1048576);
+    let count = aipsio_numbers::number(s, size.next, Width::Four, 0, 4096);
+    let cache = aipsio_numbers::uint(s, count.next);
+    let unique = aipsio_numbers::uint(s, cache.next);
+    let free = aipsio_numbers::uint(s, unique.next);
+    let first = aipsio_numbers::uint(s, free.next);
     let next = first.next;
     HeaderFields {
         size: size.value,
@@ -85,7 +85,7 @@ pub fn read_header(f: &[u8], big: bool) -> Header
         big: 1,
         refused: 0,
     };
-    let m = aipsio::mark(f, start);
+    let m = aipsio_numbers::mark(f, start);
     let h = read_fields(f, m, big);
     let e = aipsio_objects::close(h.next, m);
     answer_header(e, h)

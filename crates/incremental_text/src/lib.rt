@@ -45,10 +45,10 @@ pub fn read_index(f: &[u8], at: usize) -> Index
         big: 1,
         refused: 0,
     };
-    let m = aipsio::mark(f, start);
+    let m = aipsio_numbers::mark(f, start);
     // ISMIndex
     let o = aipsio_objects::open(f, m, 8, 0x49534d496e646578, 0x49534d496e646578, 1, 1);
-    let n = aipsio::uint(f, o.next);
+    let n = aipsio_numbers::uint(f, o.next);
     let firsts = aipsio_objects::block(f, n.next, n.value + 1, 4);
     let buckets = aipsio_objects::block(f, firsts.next, n.value, 4);
     let e = aipsio_objects::close(buckets.next, m);

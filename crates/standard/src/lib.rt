@@ -165,7 +165,7 @@ pub fn check(
     if own != 0 {
         return refuse(own);
     }
-    if !buckets::free_list_ok(f, h.size, h.count, h.free_count, h.first_free) {
+    if !free_list::free_list_ok(f, h.size, h.count, h.free_count, h.first_free) {
         return refuse(10);
     }
     let sets = index.sets;

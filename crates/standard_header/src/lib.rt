@@ -45,14 +45,14 @@ fn read_bucket_fields(s: &[u8], c: Cursor, big: bool) -> BucketFields
 {
     // StandardStMan
     let o = aipsio_objects::open(s, c, 13, 0x5374616e64617264, 0x61726453744d616e, 3, 3);
-    let flag = aipsio::flag(s, o.next);
+    let flag = aipsio_numbers::flag(s, o.next);
     let same = manager_file::same_endian(flag.value, big);
     let d = aipsio::judge(flag.next, o.next.at, same, 6);
-    let size = aipsio::number(s, d, Width::Four, 16, 1048576);
-    let count = aipsio::number(s, size.next, Width::Four, 0, 4096);
-    let cache = aipsio::uint(s, count.next);
-    let free = aipsio::uint(s, cache.next);
-    let first = aipsio::uint(s, free.next);
+    let size = aipsio_numbers::number(s, d, Width::Four, 16, 1048576);
+    let count = aipsio_numbers::number(s, size.next, Width::Four, 0, 4096);
+    let cache = aipsio_numbers::uint(s, count.next);
+    let free = aipsio_numbers::uint(s, cache.next);
+    let first = aipsio_numbers::uint(s, free.next);
     let next = first.next;
     BucketFields {
         size: size.value,
@@ -78,14 +78,14 @@ fn read_index_fields(s: &[u8], c: Cursor) -> IndexFields
     ensures { λ r. ⌜ r ≡ indexFieldsAt (now (s .entry)) c ⌝ }
     ensures words { λ r. ⌜ (r .«index_count» < 4294967296) × (r .«first_index» < 4294967296) × (r .offset < 4294967296) ⌝ }
 {
-    let count = aipsio::uint(s, c);
-    let first = aipsio::uint(s, count.next);
-    let offset = aipsio::uint(s, first.next);
+    let count = aipsio_numbers::uint(s, c);
+    let first = aipsio_numbers::uint(s, count.next);
+    let offset = aipsio_numbers::uint(s, first.next);
     let ok = offset_fits(offset.value);
     let d = aipsio::judge(offset.next, first.next.at, ok, 4);
-    let heap = aipsio::uint(s, d);
-    let len = aipsio::number(s, heap.next, Width::Four, 1, 65536);
-    let sets = aipsio::number(s, len.next, Width::Four, 1, 16);
+    let heap = aipsio_numbers::uint(s, d);
+    let len = aipsio_numbers::number(s, heap.next, Width::Four, 1, 65536);
+    let sets = aipsio_numbers::number(s, len.next, Width::Four, 1, 16);
     let next = sets.next;
     IndexFields {
         index_count: count.value,
@@ -143,7 +143,7 @@ pub fn read_header(f: &[u8], big: bool) -> Header
         big: 1,
         refused: 0,
     };
-    let m = aipsio::mark(f, start);
+    let m = aipsio_numbers::mark(f, start);
     let b = read_bucket_fields(f, m, big);
     let i = read_index_fields(f, b.next);
     let e = aipsio_objects::close(i.next, m);

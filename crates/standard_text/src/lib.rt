@@ -38,12 +38,12 @@ pub struct Index {
 fn read_set(s: &[u8], c: Cursor, width: Width) -> SetRead
     ensures { λ r. ⌜ r ≡ setAt (now (s .entry)) c width ⌝ }
 {
-    let m = aipsio::mark(s, c);
+    let m = aipsio_numbers::mark(s, c);
     // SSMIndex
     let o = aipsio_objects::open(s, m, 8, 0x53534d496e646578, 0x53534d496e646578, 1, 1);
-    let entries = aipsio::uint(s, o.next);
-    let per = aipsio::number(s, entries.next, Width::Four, 1, 8388608);
-    let columns = aipsio::uint(s, per.next);
+    let entries = aipsio_numbers::uint(s, o.next);
+    let per = aipsio_numbers::number(s, entries.next, Width::Four, 1, 8388608);
+    let columns = aipsio_numbers::uint(s, per.next);
     let free = aipsio_objects::map(s, columns.next);
     let each = width.bytes();
     let lasts = aipsio_objects::block(s, free, entries.value, each);

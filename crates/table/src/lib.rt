@@ -37,8 +37,8 @@ pub struct DescHead {
 fn read_head(s: &[u8], c: Cursor) -> Head
     ensures { λ r. ⌜ r ≡ headAt (now (s .entry)) c ⌝ }
 {
-    let rows = aipsio::number(s, c, Width::Four, 0, 2147483647);
-    let endian = aipsio::code(s, rows.next, 0, 1);
+    let rows = aipsio_numbers::number(s, c, Width::Four, 0, 2147483647);
+    let endian = aipsio_numbers::code(s, rows.next, 0, 1);
     let kind = aipsio_strings::name(s, endian.next, b"PlainTable");
     Head {
         rows: rows.value,
@@ -57,7 +57,7 @@ fn read_desc_head(s: &[u8], c: Cursor) -> DescHead
     let comment = aipsio_strings::string(s, version.next, 0, 4096);
     let keywords = aipsio_objects::record(s, comment.next);
     let private = aipsio_objects::record(s, keywords);
-    let n = aipsio::number(s, private, Width::Four, 1, 64);
+    let n = aipsio_numbers::number(s, private, Width::Four, 1, 64);
     let next = n.next;
     DescHead {
         count: n.value,
@@ -96,7 +96,7 @@ pub fn describe(s: &[u8]) -> Description
         refused: 0,
     };
     let c = aipsio::judge(whole, 65536, s.len() <= 65536, 4);
-    let m = aipsio::mark(s, c);
+    let m = aipsio_numbers::mark(s, c);
     // Table
     let t = aipsio_objects::open(s, m, 5, 0x5461626c, 0x61626c65, 2, 2);
     let head = read_head(s, t.next);

@@ -1,4 +1,4 @@
--- `incremental_values::read_offsets` meets its contract. The loop's invariant: after i turns the state is the definition's after i turns.
+-- `incremental_offsets::read_offsets` meets its contract. The loop's invariant: after i turns the state is the definition's after i turns.
 use Prim.Native.Nat.{_+_, _-_, _*_, _≤_}
 use mathlib.Core.Path.{_≡_, refl}
 use native.Mathlib.Omega.{arith}
@@ -8,11 +8,11 @@ use Rattle.bytes_at.specs.Loop.{after}
 use Rattle.bytes_at.proofs.Loops.{after-none, after-more}
 use Rattle.bytes_at.proofs.Stepped.{free}
 use Rattle.aipsio.specs.declared.Value.{Value}
 use Rattle.incremental_values.specs.Values.{offsetInto}
 use Rattle.incremental_values.proofs.Room.{room-at, no-room-at}
 use Rattle.incremental_values.proofs.Turns.{offset-short, offset-wrong, offset-on, offsets-none, offsets-stop, offsets-all}
-use Rattle.incremental_values.proofs.read_offsets.Statement.{statement}
-use Rattle.incremental_values.proofs.read_offsets.Tie as tie
+use Rattle.incremental_offsets.proofs.read_offsets.Statement.{statement}
+use Rattle.incremental_offsets.proofs.read_offsets.Tie as tie
 
 abbrev Inv-loop : tie.InvT-loop
 Inv-loop s n limit bytes hit end big refused room m at₀ offset₀ i₀ at offset i =

@@ -1,8 +1,8 @@
--- `aipsio::ranged` meets its contract: its branches are the definition's cases.
+-- `aipsio_numbers::ranged` meets its contract: its branches are the definition's cases.
 use Rattle.bytes_at.proofs.Stepped.{free}
 use Rattle.aipsio.proofs.Ways.{ranged-kept, ranged-on, ranged-out}
-use Rattle.aipsio.proofs.ranged.Statement.{statement}
-use Rattle.aipsio.proofs.ranged.Tie as tie
+use Rattle.aipsio_numbers.proofs.ranged.Statement.{statement}
+use Rattle.aipsio_numbers.proofs.ranged.Tie as tie
 
 pub ranged-spec : {M : Type 1} → statement M
 ranged-spec =

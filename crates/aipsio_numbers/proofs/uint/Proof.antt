@@ -1,10 +1,10 @@
--- `aipsio::uint` meets its contract: a number of four bytes.
+-- `aipsio_numbers::uint` meets its contract: a number of four bytes.
 use mathlib.Core.Path.{sym, _∙_}
 use Rattle.bytes_at.proofs.Stepped.{free}
 use Rattle.aipsio.proofs.Accepted.{uint-is}
 use Rattle.aipsio.proofs.Bounds.{uint-below}
-use Rattle.aipsio.proofs.uint.Statement.{statement}
-use Rattle.aipsio.proofs.uint.Tie as tie
+use Rattle.aipsio_numbers.proofs.uint.Statement.{statement}
+use Rattle.aipsio_numbers.proofs.uint.Tie as tie
 
 pub uint-spec : {M : Type 1} → statement M
 uint-spec =

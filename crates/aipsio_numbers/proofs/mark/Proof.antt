@@ -1,9 +1,9 @@
--- `aipsio::mark` meets its contract: its calls compose as the definition says.
+-- `aipsio_numbers::mark` meets its contract: its calls compose as the definition says.
 use mathlib.Core.Path.{refl}
 use Rattle.bytes_at.proofs.Stepped.{via, free}
 use Rattle.aipsio.specs.Field.{markAt}
-use Rattle.aipsio.proofs.mark.Statement.{statement}
-use Rattle.aipsio.proofs.mark.Tie as tie
+use Rattle.aipsio_numbers.proofs.mark.Statement.{statement}
+use Rattle.aipsio_numbers.proofs.mark.Tie as tie
 
 returns : tie.Need-returns
 unfolding markAt

@@ -1,11 +1,11 @@
--- `aipsio::sized` meets its contract: its branches are the definition's cases.
+-- `aipsio_numbers::sized` meets its contract: its branches are the definition's cases.
 use mathlib.Core.Path.{sym}
 use borrow.Author.Needs.{needs}
 use Rattle.bytes_at.proofs.Stepped.{free}
 use Rattle.aipsio.proofs.Kept.{refused-reads, sized-reads}
 use Rattle.aipsio.proofs.Ways.{sized-short, sized-on}
-use Rattle.aipsio.proofs.sized.Statement.{statement}
-use Rattle.aipsio.proofs.sized.Tie as tie
+use Rattle.aipsio_numbers.proofs.sized.Statement.{statement}
+use Rattle.aipsio_numbers.proofs.sized.Tie as tie
 
 pub sized-spec : {M : Type 1} → statement M
 sized-spec =

@@ -1,9 +1,9 @@
--- `aipsio::agree` meets its contract: its calls compose as the definition says.
+-- `aipsio_numbers::agree` meets its contract: its calls compose as the definition says.
 use mathlib.Core.Path.{refl}
 use Rattle.bytes_at.proofs.Stepped.{via, free}
 use Rattle.aipsio.specs.Field.{agreed}
-use Rattle.aipsio.proofs.agree.Statement.{statement}
-use Rattle.aipsio.proofs.agree.Tie as tie
+use Rattle.aipsio_numbers.proofs.agree.Statement.{statement}
+use Rattle.aipsio_numbers.proofs.agree.Tie as tie
 
 returns : tie.Need-returns
 unfolding agreed

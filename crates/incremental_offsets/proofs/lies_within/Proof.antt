@@ -1,11 +1,11 @@
--- `incremental_values::lies_within` meets its contract: the sum is tested without being made.
+-- `incremental_offsets::lies_within` meets its contract: the sum is tested without being made.
 use Prim.Native.Nat.{_+_}
 use mathlib.Core.Path.{sym}
 use native.Mathlib.Omega.{arith}
 use borrow.Author.Tests.{lt-leb}
 use Rattle.incremental_values.proofs.Turns.{leb-minus}
-use Rattle.incremental_values.proofs.lies_within.Statement.{statement}
-use Rattle.incremental_values.proofs.lies_within.Tie as tie
+use Rattle.incremental_offsets.proofs.lies_within.Statement.{statement}
+use Rattle.incremental_offsets.proofs.lies_within.Tie as tie
 
 pub lies-within-spec : {M : Type 1} → statement M
 lies-within-spec =

@@ -1,12 +1,12 @@
--- `buckets::free_list_ok` meets its contract. The loop's invariant: the list from here on decides.
+-- `free_list::free_list_ok` meets its contract. The loop's invariant: the list from here on decides.
 use mathlib.Core.Path.{_≡_, refl, sym, _∙_}
 use native.Mathlib.Omega.{arith}
 use borrow.Author.Needs.{needs}
 use Rattle.buckets.specs.Chain.{freeOk}
 use Rattle.buckets.proofs.Counted.{free-many}
 use Rattle.buckets.proofs.Links.{free-range, free-step, free-end}
-use Rattle.buckets.proofs.free_list_ok.Statement.{statement}
-use Rattle.buckets.proofs.free_list_ok.Tie as tie
+use Rattle.free_list.proofs.free_list_ok.Statement.{statement}
+use Rattle.free_list.proofs.free_list_ok.Tie as tie
 
 abbrev Inv-loop : tie.InvT-loop
 Inv-loop f size nb count first k₀ b₀ k b = freeOk f size nb count first ≡ freeOk f size nb k b
