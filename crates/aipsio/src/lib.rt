@@ -1,30 +1,14 @@
 // The cursor through which the fields of AipsIO (Note 260, section 2) are read. It goes by value and keeps its first refusal: a read
 // after a refusal leaves the cursor as it is and gives 0, and a refused read leaves the place where the failing field begins.
+pub mod numbers;
+pub mod objects;
+pub mod strings;
+
 ghost use mathlib.Core.Path.{_≡_};
 ghost use Prim.Native.Nat.{_<_, _≤_};
-ghost use Rattle.aipsio.specs.Field.{refusedAt, leftIn, skipped, skippedEach, judged, settled};
-
-// Where the next field begins, where the enclosing object ends, the byte order (1: big endian, AipsIO's own; any other
-// number: little endian), and the refusal number: 0 while there is none. After a refusal `at` is where the failing field begins.
-pub struct Cursor {
-    pub at: usize,
-    pub end: usize,
-    pub big: usize,
-    pub refused: usize,
-}
-
-// A number that was read, 0 where the cursor is refused, and the cursor past it.
-pub struct Value {
-    pub value: usize,
-    pub next: Cursor,
-}
-
-// The bytes of a String, as a place in the file (zeros where the cursor is refused), and the cursor past it.
-pub struct Text {
-    pub start: usize,
-    pub len: usize,
-    pub next: Cursor,
-}
+ghost use Rattle.aipsio_rules.specs.Field.{leftIn, refusedAt, skipped, skippedEach, judged, settled};
+use aipsio_rules::Cursor;
+use aipsio_rules::Value;
 
 // How many bytes the enclosing object has left.
 pub fn left(c: Cursor) -> usize

@@ -12,7 +12,9 @@ use lib.Dec.{T, eqb, ltb, ltb→lt}
 use store.Enc.{and-l, and-r}
 use borrow.Author.Tests.{lt-ltb, le-ltb, eq-eqb, ne-eqb}
 use Rattle.bytes_at.specs.Number.{uintOf}
-use Rattle.buckets.specs.Chain.{startOf, Area, nextOf, againOf, noBucket, links, chainOk, chainText, freeOk}
+use Rattle.standard_rules.specs.Header.{bucketStart}
+use Rattle.buckets.specs.Area.{Area}
+use Rattle.standard_rules.specs.Index.{nextOf, againOf, noBucket, links, chainOk, chainText, freeOk}
 
 -- bucket b of nb lies in the file
 pub start-in : (size nb b len : ℕ) → b < nb → 512 + nb * size ≤ len → 512 + b * size + size ≤ len
@@ -20,7 +22,7 @@ start-in size nb b len h l = omega (arith, suc-mul b size, mul-le-mul-right {m =
 
 module _ (f : List ℕ) (size : ℕ) where
   -- the numbers of a chain's buckets, and their text
-  pub links-step : (k b : ℕ) {p next : ℕ} → 0 < k → p ≡ startOf size b → next ≡ uintOf true 4 f p → links f size k b ≡ b ∷ links f size (k - 1) next
+  pub links-step : (k b : ℕ) {p next : ℕ} → 0 < k → p ≡ bucketStart size b → next ≡ uintOf true 4 f p → links f size k b ≡ b ∷ links f size (k - 1) next
   unfolding links
   links-step zero b h ep en = absurd (not-suc-le-zero h)
   links-step (suc k) b h ep en = rw (sub-one, en, ep)
@@ -35,7 +37,7 @@ module _ (f : List ℕ) (size : ℕ) where
   links-long zero b = refl
   links-long (suc k) b = ap suc (links-long k (nextOf f size b))
 
-  pub text-step : (k b : ℕ) → 0 < k → chainText f size k b ≡ take (size - 8) (drop (startOf size b + 8) f) ++ chainText f size (k - 1) (nextOf f size b)
+  pub text-step : (k b : ℕ) → 0 < k → chainText f size k b ≡ take (size - 8) (drop (bucketStart size b + 8) f) ++ chainText f size (k - 1) (nextOf f size b)
   unfolding chainText
   text-step zero b h = absurd (not-suc-le-zero h)
   text-step (suc k) b h = rw sub-one
@@ -58,7 +60,7 @@ module _ (f : List ℕ) (size nb : ℕ) where
   chain-twice (suc k) b h hb e = rw (lt-ltb b nb hb, ne-eqb _ _ e)
 
   -- the free list, at bucket b
-  pub free-step : (k b : ℕ) {p next : ℕ} → 0 < k → b < nb → p ≡ startOf size b → next ≡ uintOf true 4 f p → freeOk f size nb k b ≡ freeOk f size nb (k - 1) next
+  pub free-step : (k b : ℕ) {p next : ℕ} → 0 < k → b < nb → p ≡ bucketStart size b → next ≡ uintOf true 4 f p → freeOk f size nb k b ≡ freeOk f size nb (k - 1) next
   unfolding freeOk
   free-step zero b h hb ep en = absurd (not-suc-le-zero h)
   free-step (suc k) b h hb ep en = rw (sub-one, lt-ltb b nb hb, en, ep)
@@ -73,7 +75,7 @@ module _ (f : List ℕ) (size nb : ℕ) where
   free-end k b h = let e : k ≡ 0 = omega arith in rw e
 
   -- a bucket's text
-  pub body-long : (b : ℕ) → Area f size nb → b < nb → length (take (size - 8) (drop (startOf size b + 8) f)) ≡ size - 8
+  pub body-long : (b : ℕ) → Area f size nb → b < nb → length (take (size - 8) (drop (bucketStart size b + 8) f)) ≡ size - 8
   body-long b a h = simp (length-take, length-drop) (omega (arith, a .least, start-in size nb b (length f) h (a .holds)))
 
   -- the text of a chain that is right

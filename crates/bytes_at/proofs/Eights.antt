@@ -11,7 +11,8 @@ use lib.ListN.{length, take, drop, take-append-drop, length-drop, length-append}
 use lib.Seq.{take-all, take-take, take-add, getD-drop, length-take-le, drop-at}
 use borrow.Author.Tests.{eq-eqb, ne-eqb}
 use Rattle.bytes_at.specs.Number.{bigFrom, uintOf, bigBytes}
-use Rattle.bytes_at.specs.Bytes.{sameBytes, joined, Joins}
+use Rattle.bytes_at.specs.Joined.{joined, Joins}
+use Rattle.bytes_at.specs.Bytes.{sameBytes}
 use Rattle.bytes_at.proofs.Numbers.{Bytes, big-take, joined-bytes, bytes-length, number-bytes, number-of}
 use Rattle.bytes_at.proofs.Comparing.{same-self, unlike}
 

@@ -10,3 +10,7 @@ pub mod Cleared
 pub mod Copied
 pub mod Stages
 pub mod Past
+pub mod Tests
+pub mod MoreTests
+pub mod Apart
+pub mod Listed

@@ -4,7 +4,7 @@ use Prim.Native.Nat.{ℕ, zero, suc, _+_, _-_, _≤_}
 use native.Mathlib.Numerals.{add-one}
 use native.Mathlib.Nat.{add-zero, add-suc}
 use native.Mathlib.Omega.{arith}
-use Rattle.bytes_at.specs.Loop.{after}
+use Rattle.bytes_at.specs.Steps.{after}
 
 module _ {A : Type 0} (step : A → ℕ → A) (x : A) where
   pub after-none : x ≡ after step x 0

@@ -5,7 +5,7 @@ use mathlib.Core.Bool.{Bool, true, false}
 use Prim.Native.Nat.{ℕ, zero, suc, _+_, _-_, _≤_, _<_, zero-le}
 use native.Mathlib.Omega.{arith}
 use native.Mathlib.Numerals.{add-one}
-use Rattle.bytes_at.specs.First.{firstFrom, firstBelow}
+use Rattle.bytes_at.specs.Lists.{firstFrom, firstBelow}
 
 pub record Searched (test : ℕ → Bool) (n i : ℕ) : Type 0 where
   pub within : i ≤ n

@@ -1,7 +1,7 @@
 -- The definitions that the contracts cite.
 pub mod Number
 pub mod Bytes
-pub mod Loop
+pub mod Lists
 pub mod Steps
-pub mod First
+pub mod Joined
 pub mod Stages

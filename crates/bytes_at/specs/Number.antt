@@ -23,14 +23,23 @@ unfoldable pub uintOf : Bool → ℕ → List ℕ → ℕ → ℕ
 uintOf true n s at = bigFrom 0 n (drop at s)
 uintOf false n s at = littleFrom 0 1 n (drop at s)
 
--- the n bytes of a number, most significant byte first
-abbrev pub bigBytes : ℕ → ℕ → List ℕ
-bigBytes zero x = []
-bigBytes (suc n) x = (x / 256 ^ n) % 256 ∷ bigBytes n x
-
 -- how many bytes a width is
 abbrev pub bytesOf : Width → ℕ
 bytesOf One = 1
 bytesOf Two = 2
 bytesOf Four = 4
 bytesOf Eight = 8
+
+-- number k of those from a place on, `width` bytes each
+abbrev pub numberIn : Bool → ℕ → List ℕ → ℕ → ℕ → ℕ
+numberIn big width s at k = uintOf big width s (at + k * width)
+
+-- n numbers from a place on
+unfoldable pub numbersAt : Bool → ℕ → List ℕ → ℕ → ℕ → List ℕ
+numbersAt big width s at zero = []
+numbersAt big width s at (suc n) = uintOf big width s at ∷ numbersAt big width s (at + width) n
+
+-- the n bytes of a number, most significant byte first
+abbrev pub bigBytes : ℕ → ℕ → List ℕ
+bigBytes zero x = []
+bigBytes (suc n) x = (x / 256 ^ n) % 256 ∷ bigBytes n x

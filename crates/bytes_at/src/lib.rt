@@ -1,11 +1,13 @@
 // Bytes: the numbers that stand in them, their parts, clearing and copying.
+pub mod text_at;
+
 ghost use mathlib.Core.Path.{_≡_};
-ghost use mathlib.Core.Bool.{true, false, _&&_};
-ghost use Prim.Native.Nat.{_+_, _-_, _≤_, _<_};
-ghost use lib.Dec.{leb};
+ghost use Prim.Native.Nat.{_≤_, _<_, _+_, _-_};
 ghost use lib.ListN.{length, take, drop, replicate};
+ghost use mathlib.Core.Bool.{true, false, _&&_};
+ghost use lib.Dec.{leb};
 ghost use lib.Seq.{paste};
-ghost use Rattle.bytes_at.specs.Number.{uintOf, bytesOf};
+ghost use Rattle.bytes_at.specs.Number.{bytesOf, uintOf};
 
 // How many bytes a number has.
 pub enum Width {

@@ -6,7 +6,7 @@ use mathlib.Core.List.{List}
 use Prim.Native.Nat.{ℕ, _≤_, _<_}
 use lib.ListN.{length}
 use borrow.Author.Tests.{lt-ltb, le-ltb}
-use Rattle.c_values.specs.Answers.{orShort, written, roomLeft, byPlan}
+use Rattle.c_numbers.specs.Answers.{orShort, written, roomLeft, ifNine}
 
 module _ (n : ℕ) (out room after : List ℕ) where
   pub short : (values : List ℕ) (number : ℕ) → length values ≡ n → length out < n
@@ -19,10 +19,10 @@ module _ (n : ℕ) (out room after : List ℕ) where
   asked h e = rw (le-ltb (length out) n h) e
 
 module _ {A : Type 0} (plan : List ℕ) (short whole : A) where
-  pub unplanned : length plan < 9 → short ≡ byPlan plan short whole
-  unfolding byPlan
+  pub unplanned : length plan < 9 → short ≡ ifNine plan short whole
+  unfolding ifNine
   unplanned h = rw (lt-ltb (length plan) 9 h)
 
-  pub planned : {x : A} → 9 ≤ length plan → x ≡ whole → x ≡ byPlan plan short whole
-  unfolding byPlan
+  pub planned : {x : A} → 9 ≤ length plan → x ≡ whole → x ≡ ifNine plan short whole
+  unfolding ifNine
   planned h e = rw (le-ltb (length plan) 9 h) e

@@ -4,11 +4,10 @@
 ghost use mathlib.Core.Path.{_≡_};
 ghost use mathlib.Core.List.{[], _∷_};
 ghost use lib.ListN.{length};
-ghost use Rattle.table.specs.Table.{describedAs};
-ghost use Rattle.column_names.specs.ColumnNames.{positionOf};
+ghost use Rattle.table_rules.specs.Table.{describedAs, columnNamed};
+ghost use Rattle.c_numbers.specs.Answers.{orShort, written, summaryOf, columnRefusal, columnNumbers, managerRefusal, managerNumbers, positionRefusal, positionNumber, roomLeft, ifNine};
 ghost use Rattle.lookup_rules.specs.Questions.{answerOf, roomAfter};
-ghost use Rattle.c_values.specs.Answers.{orShort, written, roomLeft, summaryOf, columnRefusal, managerRefusal, columnNumbers, managerNumbers, positionRefusal, positionNumber, byPlan};
-ghost use Rattle.c_numbers.specs.Numbers.{planNumbers, planFrom, placeNumbers, viewNumbers};
+ghost use Rattle.c_numbers.specs.Numbers.{planNumbers, placeNumbers, viewNumbers, planFrom};
 use lookup_rules::Question;
 
 // Row count, byte order (1: big endian), number of columns, number of managers: 4 numbers.
@@ -24,7 +23,7 @@ pub extern "C" fn hv_description(table: &[u8], out: &mut [u64]) -> u64
         d.column_count as u64,
         d.manager_count as u64,
     ];
-    c_values::answer(d.refused as u64, &values, out)
+    c_numbers::values::answer(d.refused as u64, &values, out)
 }
 
 // A column, 11 numbers: where its name begins in table.dat and how long it is, data type number, 1 for an array, options,
@@ -37,11 +36,11 @@ pub extern "C" fn hv_column(table: &[u8], position: u64, out: &mut [u64]) -> u64
     let count = d.column_count;
     let columns = d.columns;
     let bindings = d.bindings;
-    let c = c_values::pick_column(columns, count, position);
-    let b = c_values::pick_binding(bindings, count, position);
-    let refused = c_values::refusal(d.refused, position, count);
+    let c = c_numbers::values::pick_column(columns, count, position);
+    let b = c_numbers::values::pick_binding(bindings, count, position);
+    let refused = c_numbers::values::refusal(d.refused, position, count);
     let values = c_numbers::of_column(c, b);
-    c_values::answer(refused, &values, out)
+    c_numbers::values::answer(refused, &values, out)
 }
 
 // A manager, 4 numbers: sequence number, kind (1 StandardStMan, 2 IncrementalStMan, 0 any other), where its name begins in
@@ -53,21 +52,21 @@ pub extern "C" fn hv_manager(table: &[u8], index: u64, out: &mut [u64]) -> u64
     let d = table::describe(table);
     let count = d.manager_count;
     let managers = d.managers;
-    let m = c_values::pick_manager(managers, count, index);
-    let refused = c_values::refusal(d.refused, index, count);
+    let m = c_numbers::values::pick_manager(managers, count, index);
+    let refused = c_numbers::values::refusal(d.refused, index, count);
     let values = c_numbers::of_manager(m);
-    c_values::answer(refused, &values, out)
+    c_numbers::values::answer(refused, &values, out)
 }
 
 // The position of the column with a name: 1 number. No such column: 8.
 #[no_mangle]
 pub extern "C" fn hv_column_by_name(table: &[u8], name: &[u8], out: &mut [u64]) -> u64
-    ensures { λ r. ⌜ (r ≡ orShort (positionNumber (positionOf (now (table .entry)) (now (name .entry))) ∷ []) (now (out .entry)) (positionRefusal (positionOf (now (table .entry)) (now (name .entry))))) × (now (out .exit) ≡ written (positionNumber (positionOf (now (table .entry)) (now (name .entry))) ∷ []) (now (out .entry))) ⌝ }
+    ensures { λ r. ⌜ (r ≡ orShort (positionNumber (columnNamed (now (table .entry)) (now (name .entry))) ∷ []) (now (out .entry)) (positionRefusal (columnNamed (now (table .entry)) (now (name .entry))))) × (now (out .exit) ≡ written (positionNumber (columnNamed (now (table .entry)) (now (name .entry))) ∷ []) (now (out .entry))) ⌝ }
 {
-    let p = column_names::column_by_name(table, name);
-    let refused = c_values::position_refusal(p);
-    let values = [c_values::position_number(p)];
-    c_values::answer(refused, &values, out)
+    let p = table::names::column_by_name(table, name);
+    let refused = c_numbers::values::position_refusal(p);
+    let values = [c_numbers::values::position_number(p)];
+    c_numbers::values::answer(refused, &values, out)
 }
 
 // File check: the refusal alone.
@@ -75,7 +74,7 @@ pub extern "C" fn hv_column_by_name(table: &[u8], name: &[u8], out: &mut [u64]) 
 pub extern "C" fn hv_check(table: &[u8], file: &[u8], sequence: u64, room: &mut [u8]) -> u64
     ensures { λ r. ⌜ (r ≡ answerOf (now (table .entry)) (now (file .entry)) (Question.Check sequence) (length (now (room .entry))) .refused) × (now (room .exit) ≡ roomAfter (now (table .entry)) (now (file .entry)) (Question.Check sequence) (length (now (room .entry)))) ⌝ }
 {
-    let a = lookup_ask::ask(table, file, Question::Check(sequence as usize), room);
+    let a = lookup::ask::ask(table, file, Question::Check(sequence as usize), room);
     a.refused as u64
 }
 
@@ -93,10 +92,10 @@ pub extern "C" fn hv_plan(
     if out.len() < 9 {
         return 255;
     }
-    let a = lookup_ask::ask(table, file, Question::Prepare(position as usize), room);
+    let a = lookup::ask::ask(table, file, Question::Prepare(position as usize), room);
     let p = a.plan;
     let values = c_numbers::of_plan(p);
-    c_values::answer(a.refused as u64, &values, out)
+    c_numbers::values::answer(a.refused as u64, &values, out)
 }
 
 // A place: first bit and bit count.
@@ -106,9 +105,9 @@ fn answer_place(table: &[u8], file: &[u8], q: Question, room: &mut [u8], out: &m
     if out.len() < 2 {
         return 255;
     }
-    let a = lookup_ask::ask(table, file, q, room);
+    let a = lookup::ask::ask(table, file, q, room);
     let values = c_numbers::of_place(a);
-    c_values::answer(a.refused as u64, &values, out)
+    c_numbers::values::answer(a.refused as u64, &values, out)
 }
 
 // A view: the start and the length of the cell's part of the file, in bytes.
@@ -118,9 +117,9 @@ fn answer_view(table: &[u8], file: &[u8], q: Question, room: &mut [u8], out: &mu
     if out.len() < 2 {
         return 255;
     }
-    let a = lookup_ask::ask(table, file, q, room);
+    let a = lookup::ask::ask(table, file, q, room);
     let values = c_numbers::of_view(a);
-    c_values::answer(a.refused as u64, &values, out)
+    c_numbers::values::answer(a.refused as u64, &values, out)
 }
 
 // Place, of a row and a position: first bit and bit count, 2 numbers.
@@ -154,7 +153,7 @@ pub extern "C" fn hv_place_planned(
     room: &mut [u8],
     out: &mut [u64],
 ) -> u64
-    ensures { λ r. ⌜ (r ≡ byPlan (now (plan .entry)) 255 (orShort (placeNumbers (answerOf (now (table .entry)) (now (file .entry)) (Question.PlacePlanned row (planFrom (now (plan .entry)))) (length (now (room .entry))))) (now (out .entry)) (answerOf (now (table .entry)) (now (file .entry)) (Question.PlacePlanned row (planFrom (now (plan .entry)))) (length (now (room .entry))) .refused))) × (now (out .exit) ≡ byPlan (now (plan .entry)) (now (out .entry)) (written (placeNumbers (answerOf (now (table .entry)) (now (file .entry)) (Question.PlacePlanned row (planFrom (now (plan .entry)))) (length (now (room .entry))))) (now (out .entry)))) × (now (room .exit) ≡ byPlan (now (plan .entry)) (now (room .entry)) (roomLeft 2 (now (out .entry)) (now (room .entry)) (roomAfter (now (table .entry)) (now (file .entry)) (Question.PlacePlanned row (planFrom (now (plan .entry)))) (length (now (room .entry)))))) ⌝ }
+    ensures { λ r. ⌜ (r ≡ ifNine (now (plan .entry)) 255 (orShort (placeNumbers (answerOf (now (table .entry)) (now (file .entry)) (Question.PlacePlanned row (planFrom (now (plan .entry)))) (length (now (room .entry))))) (now (out .entry)) (answerOf (now (table .entry)) (now (file .entry)) (Question.PlacePlanned row (planFrom (now (plan .entry)))) (length (now (room .entry))) .refused))) × (now (out .exit) ≡ ifNine (now (plan .entry)) (now (out .entry)) (written (placeNumbers (answerOf (now (table .entry)) (now (file .entry)) (Question.PlacePlanned row (planFrom (now (plan .entry)))) (length (now (room .entry))))) (now (out .entry)))) × (now (room .exit) ≡ ifNine (now (plan .entry)) (now (room .entry)) (roomLeft 2 (now (out .entry)) (now (room .entry)) (roomAfter (now (table .entry)) (now (file .entry)) (Question.PlacePlanned row (planFrom (now (plan .entry)))) (length (now (room .entry)))))) ⌝ }
 {
     if plan.len() < 9 {
         return 255;
@@ -200,7 +199,7 @@ pub extern "C" fn hv_view_planned(
     room: &mut [u8],
     out: &mut [u64],
 ) -> u64
-    ensures { λ r. ⌜ (r ≡ byPlan (now (plan .entry)) 255 (orShort (viewNumbers (answerOf (now (table .entry)) (now (file .entry)) (Question.ViewPlanned row (planFrom (now (plan .entry)))) (length (now (room .entry))))) (now (out .entry)) (answerOf (now (table .entry)) (now (file .entry)) (Question.ViewPlanned row (planFrom (now (plan .entry)))) (length (now (room .entry))) .refused))) × (now (out .exit) ≡ byPlan (now (plan .entry)) (now (out .entry)) (written (viewNumbers (answerOf (now (table .entry)) (now (file .entry)) (Question.ViewPlanned row (planFrom (now (plan .entry)))) (length (now (room .entry))))) (now (out .entry)))) × (now (room .exit) ≡ byPlan (now (plan .entry)) (now (room .entry)) (roomLeft 2 (now (out .entry)) (now (room .entry)) (roomAfter (now (table .entry)) (now (file .entry)) (Question.ViewPlanned row (planFrom (now (plan .entry)))) (length (now (room .entry)))))) ⌝ }
+    ensures { λ r. ⌜ (r ≡ ifNine (now (plan .entry)) 255 (orShort (viewNumbers (answerOf (now (table .entry)) (now (file .entry)) (Question.ViewPlanned row (planFrom (now (plan .entry)))) (length (now (room .entry))))) (now (out .entry)) (answerOf (now (table .entry)) (now (file .entry)) (Question.ViewPlanned row (planFrom (now (plan .entry)))) (length (now (room .entry))) .refused))) × (now (out .exit) ≡ ifNine (now (plan .entry)) (now (out .entry)) (written (viewNumbers (answerOf (now (table .entry)) (now (file .entry)) (Question.ViewPlanned row (planFrom (now (plan .entry)))) (length (now (room .entry))))) (now (out .entry)))) × (now (room .exit) ≡ ifNine (now (plan .entry)) (now (room .entry)) (roomLeft 2 (now (out .entry)) (now (room .entry)) (roomAfter (now (table .entry)) (now (file .entry)) (Question.ViewPlanned row (planFrom (now (plan .entry)))) (length (now (room .entry)))))) ⌝ }
 {
     if plan.len() < 9 {
         return 255;

@@ -3,11 +3,11 @@ use Prim.Native.Nat.{ℕ, _/_}
 use mathlib.Core.List.{List, [], _∷_}
 use mathlib.Core.Bool.{Bool, true, false}
 use lib.ListN.{getD}
-use Rattle.column_desc.specs.declared.Column.{Column}
-use Rattle.column_set.specs.declared.Binding.{Binding}
-use Rattle.data_managers.specs.declared.Manager.{Manager}
-use Rattle.data_managers.specs.declared.Kind.{Kind}
-use Rattle.data_managers.specs.declared.Kind.the-variants.{Other, Standard, Incremental}
+use Rattle.table_rules.specs.declared.Column.{Column}
+use Rattle.table_rules.specs.declared.Binding.{Binding}
+use Rattle.table_rules.specs.declared.Manager.{Manager}
+use Rattle.table_rules.specs.declared.Kind.{Kind}
+use Rattle.table_rules.specs.declared.Kind.the-variants.{Other, Standard, Incremental}
 use Rattle.lookup_rules.specs.declared.Plan.{Plan}
 use Rattle.lookup_rules.specs.declared.Answer.{Answer}
 

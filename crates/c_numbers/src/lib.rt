@@ -1,14 +1,16 @@
 // Columns, managers, plans, places and views as the numbers that C gets, and a plan from its numbers.
+pub mod values;
+
 ghost use mathlib.Core.Path.{_≡_};
 ghost use Prim.Native.Nat.{_≤_};
 ghost use lib.ListN.{length};
 ghost use Rattle.c_numbers.specs.Numbers.{flagOf, kindNumber, oneColumn, oneManager, planNumbers, placeNumbers, viewNumbers, planFrom};
-use column_desc::Column;
-use column_set::Binding;
-use data_managers::Kind;
-use data_managers::Manager;
 use lookup_rules::Answer;
 use lookup_rules::Plan;
+use table_rules::Binding;
+use table_rules::Column;
+use table_rules::Kind;
+use table_rules::Manager;
 
 pub fn flag(b: bool) -> u64
     ensures { λ r. ⌜ r ≡ flagOf b ⌝ }

@@ -7,32 +7,23 @@ use mathlib.Core.List.{List, [], _∷_}
 use Prim.Native.Nat.{ℕ, _*_}
 use lib.ListN.{length, set}
 use lib.Dec.{eqb}
-use Rattle.bytes_at.specs.Number.{bigFrom, littleFrom, uintOf}
+use Rattle.bytes_at.specs.Number.{bigFrom, littleFrom, uintOf, numbersAt}
 use Rattle.bytes_at.specs.Bytes.{sameBytes}
-use Rattle.bytes_at.specs.First.{firstFrom}
-use Rattle.bytes_at.specs.Loop.{after}
-use Rattle.bytes_at.specs.Steps.{_>>=_}
+use Rattle.bytes_at.specs.Lists.{firstFrom, all, allFrom, pairs}
+use Rattle.bytes_at.specs.Steps.{after, _>>=_}
 use Rattle.bytes_at.specs.Stages.{_▷_, orNo}
-use Rattle.aipsio.specs.declared.Cursor.{Cursor}
-use Rattle.aipsio.specs.Field.{skipped, skippedEach, judged, settled, sizedAt, uintAt, rangedAt, agreed, markAt, textBefore, textAt, stringAt, nameAt}
-use Rattle.aipsio_objects.specs.Object.{entered, opened, closed, passed, recordAt, blockAt, mapAt, ipositionAt, axisInto, axesAt, shapeAt}
-use Rattle.data_type.specs.DataTypes.{placeOf, nameOf, withNumber, withName}
-use Rattle.column_types.specs.ColumnTypes.{columnTypeOf, cellBits}
-use Rattle.column_desc.specs.ColumnDesc.{typeAt, headAt, columnAt, blank, isNamed, firstNamed, columnInto, columnsAt}
-use Rattle.column_layout.specs.ColumnLayout.{notesAt, optionsAt, dimensionsAt, elementsAt, layoutAt, defaultAt, tailAt}
-use Rattle.data_managers.specs.DataManagers.{kindOf, headAt as setHeadAt, firstNumber, noManager, managerInto, managersAt}
-use Rattle.column_set.specs.ColumnSet.{infoInto, infosAt, noBinding, bindingOf, bindingAt, bindingsAt}
-use Rattle.column_info.specs.ColumnInfo.{sequenceAt, ownShapeAt, noOwner, ownerInto, ownersAt}
-use Rattle.table.specs.Table.{headAt as tableHeadAt, descHeadAt, refusedWith, describedAs}
-use Rattle.buckets.specs.Chain.{links, chainOk, chainText, chainHolds, offsetOk, indexOk, indexText, freeOk}
-use Rattle.cell_map.specs.Tests.{all, allFrom, pairs}
-use Rattle.cell_map.specs.Map.{entryOf}
-use Rattle.cell_map.specs.Fits.{covers, boundTo, dataOf, fits, inBucket, clear}
-use Rattle.row_index.specs.Numbers.{numbersAt}
-use Rattle.manager_file.specs.Start.{headerRoom}
-use Rattle.standard_header.specs.Header.{bucketFieldsAt, indexFieldsAt, headed, headerIn}
-use Rattle.standard_text.specs.Index.{setAt, setInto, setsAt, indexed, indexIn}
-use Rattle.standard_rules.specs.Rules.{textOf, setsFrom, columnsFrom, mapOf, refusalOf, checkedAs}
+use Rattle.aipsio_rules.specs.declared.Cursor.{Cursor}
+use Rattle.aipsio_rules.specs.Field.{skipped, skippedEach, judged, settled, sizedAt, uintAt, rangedAt, agreed, markAt, textBefore, textAt, stringAt, nameAt}
+use Rattle.aipsio_rules.specs.Object.{entered, opened, closed, passed, recordAt, blockAt, mapAt, ipositionAt, axisInto, axesAt, shapeAt}
+use Rattle.table_rules.specs.DataType.{typePlace, typeName, withNumber, withName}
+use Rattle.table_rules.specs.ColumnDesc.{columnTypeOf, cellBits, columnTypeAt, columnHeadAt, columnRestAt, noColumn, isNamed, firstNamed, columnInto, columnsAt, notesAt, optionsAt, dimensionsAt, elementsAt, layoutAt, defaultAt, tailAt}
+use Rattle.table_rules.specs.ColumnSet.{kindOf, columnSetHeadAt, firstNumber, noManager, managerInto, managersAt, infoInto, infosAt, noBinding, bindingOf, bindingAt, bindingsAt, sequenceAt, ownShapeAt, noOwner, ownerInto, ownersAt}
+use Rattle.table_rules.specs.Table.{tableHeadAt, tableDescHeadAt, refusedTable, describedAs}
+use Rattle.standard_rules.specs.Index.{links, chainOk, chainText, chainHolds, offsetOk, indexOk, indexText, freeOk, ssmIndexAt, setInto, setsAt, indexed, indexIn, indexTextOf}
+use Rattle.standard_rules.specs.Place.{entryOf}
+use Rattle.standard_rules.specs.Map.{covers, boundTo, dataOf, fits, inBucket, clear, setsFrom, columnsFrom, mapOf}
+use Rattle.standard_rules.specs.Header.{headerRoom, bucketFieldsAt, indexFieldsAt, headed, headerIn}
+use Rattle.standard_rules.specs.Check.{refusalOf, checkedAs}
 use Rattle.lookup_rules.specs.declared.Question.{Question}
 use Rattle.lookup_rules.specs.declared.Question.the-variants.{Check, Place, View}
 use Rattle.lookup_rules.specs.Questions.{kindWith, targetOf, fileOf, planFor, samePlan, stagesOf, placeIn, answered, answerOf}
@@ -87,7 +78,7 @@ pastHeader f =
     closed (indexFieldsAt f (bucketFieldsAt f m true .next) .next) m
 
 pub cases : List Bool
-unfolding bigFrom littleFrom uintOf sameBytes firstFrom after _>>=_ _▷_ orNo skipped skippedEach judged settled sizedAt uintAt rangedAt agreed markAt textBefore textAt stringAt nameAt entered opened closed passed recordAt blockAt mapAt ipositionAt axisInto axesAt shapeAt placeOf nameOf withNumber withName columnTypeOf cellBits typeAt headAt notesAt optionsAt dimensionsAt elementsAt layoutAt defaultAt tailAt columnAt blank isNamed firstNamed columnInto columnsAt kindOf setHeadAt firstNumber noManager managerInto managersAt sequenceAt ownShapeAt noOwner ownerInto ownersAt infoInto infosAt noBinding bindingOf bindingAt bindingsAt tableHeadAt descHeadAt refusedWith describedAs links chainOk chainText chainHolds offsetOk indexOk indexText freeOk all allFrom pairs entryOf covers boundTo dataOf fits inBucket clear numbersAt bucketFieldsAt indexFieldsAt headed headerIn setAt setInto setsAt indexed indexIn textOf setsFrom columnsFrom mapOf refusalOf checkedAs kindWith targetOf fileOf placeIn planFor samePlan stagesOf answered answerOf
+unfolding bigFrom littleFrom uintOf sameBytes firstFrom after _>>=_ _▷_ orNo skipped skippedEach judged settled sizedAt uintAt rangedAt agreed markAt textBefore textAt stringAt nameAt entered opened closed passed recordAt blockAt mapAt ipositionAt axisInto axesAt shapeAt typePlace typeName withNumber withName columnTypeOf cellBits columnTypeAt columnHeadAt notesAt optionsAt dimensionsAt elementsAt layoutAt defaultAt tailAt columnRestAt noColumn isNamed firstNamed columnInto columnsAt kindOf columnSetHeadAt firstNumber noManager managerInto managersAt sequenceAt ownShapeAt noOwner ownerInto ownersAt infoInto infosAt noBinding bindingOf bindingAt bindingsAt tableHeadAt tableDescHeadAt refusedTable describedAs links chainOk chainText chainHolds offsetOk indexOk indexText freeOk all allFrom pairs entryOf covers boundTo dataOf fits inBucket clear numbersAt bucketFieldsAt indexFieldsAt headed headerIn ssmIndexAt setInto setsAt indexed indexIn indexTextOf setsFrom columnsFrom mapOf refusalOf checkedAs kindWith targetOf fileOf placeIn planFor samePlan stagesOf answered answerOf
 cases =
     -- A: TIME row 5 is bytes 537 to 544
     gives tableDat f0 (Place 5 TIME) (8 * 537) 64

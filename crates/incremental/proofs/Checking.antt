@@ -9,22 +9,27 @@ use lib.Dec.{leb→le}
 use lib.ListN.{length}
 use Rattle.bytes_at.specs.Stages.{_▷_, orNo}
 use Rattle.bytes_at.proofs.Stages.{then-left, then-right, or-passed, stops, goes, regroup, no-is, yes-is}
-use Rattle.buckets.specs.Chain.{Area, startOf, freeOk}
-use Rattle.cell_map.proofs.Tests.{passed}
-use Rattle.cell_map.proofs.Places.{step}
-use Rattle.row_index.specs.Numbers.{numberIn}
-use Rattle.table.specs.declared.Description.{Description}
-use Rattle.manager_file.specs.Start.{longEnough}
-use Rattle.incremental_header.specs.declared.Header.{Header}
-use Rattle.incremental_text.specs.declared.Index.{Index}
-use Rattle.incremental_header.specs.Header.{headerAt, HeaderBounds}
+use Rattle.buckets.specs.Area.{Area}
+use Rattle.standard_rules.specs.Header.{bucketStart}
+use Rattle.standard_rules.specs.Index.{freeOk}
+use Rattle.bytes_at.proofs.Tests.{passed}
+use Rattle.standard_rules.proofs.Places.{step}
+use Rattle.bytes_at.specs.Number.{numberIn}
+use Rattle.table_rules.specs.declared.Description.{Description}
+use Rattle.standard_rules.specs.Check.{longEnough}
+use Rattle.incremental_rules.specs.declared.Header.{Header}
+use Rattle.incremental_rules.specs.declared.Index.{Index}
+use Rattle.incremental_rules.specs.Header.{headerAt}
+use Rattle.incremental.specs.Bounds.{HeaderBounds}
 use Rattle.incremental_rules.specs.declared.Cells.{Cells}
 use Rattle.incremental_rules.specs.declared.Found.{Found}
 use Rattle.incremental_rules.specs.declared.Checked.{Checked}
-use Rattle.incremental_rules.specs.Rules.{indexFits, cellsOf, searchOf, indexOf, refusalOf, checkedAs}
+use Rattle.incremental_rules.specs.Index.{indexFits, indexOf}
+use Rattle.incremental_rules.specs.Bucket.{cellsOf}
+use Rattle.incremental_rules.specs.Check.{searchOf, refusalOf, checkedAs}
 use Rattle.incremental_rules.proofs.AnyCell.{cells-same, search-same}
 use Rattle.incremental_rules.proofs.Rows.{number-below}
-use Rattle.incremental.specs.Incremental.{beforeIndex, refusedFile}
+use Rattle.incremental.specs.Check.{beforeIndex, refusedFile}
 
 -- ---- what the first stages show
 pub area-passed : (refused : ℕ) (h : Header) (f : List ℕ) → HeaderBounds h → beforeIndex refused h (length f) ≡ 0 → Area f (h .size) (h .count)
@@ -38,7 +43,7 @@ area-passed refused h f b z = record {
 
 -- the buckets of an index that is right lie in the file
 pub buckets-inside : (rows : ℕ) (f : List ℕ) (h : Header) (x : Index) {m : Bool} → Area f (h .size) (h .count) → m ≡ indexFits rows f h x → m ≡ true
-    → (i : ℕ) → i < x .count → startOf (h .size) (numberIn true 4 f (x .buckets) i) + h .size ≤ length f
+    → (i : ℕ) → i < x .count → bucketStart (h .size) (numberIn true 4 f (x .buckets) i) + h .size ≤ length f
 buckets-inside rows f h x a e z i l =
     omega (arith, step (h .size) (number-below rows f h x (passed (sym e ∙ z)) i l), a .holds)
 

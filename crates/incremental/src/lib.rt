@@ -1,12 +1,18 @@
 // The check of an IncrementalStMan file, which in the same pass finds the cell that is asked for (document 01,
 // "IncrementalStMan").
-ghost use mathlib.Core.Path.{_≡_};
+pub mod cells;
+pub mod columns;
+pub mod header;
+pub mod index;
+pub mod text;
+
 ghost use Prim.Native.Nat.{_≤_};
-ghost use Rattle.incremental_rules.specs.Rules.{checkedAs};
-ghost use Rattle.incremental.specs.Incremental.{beforeIndex, refusedFile};
-use incremental_header::Header;
+ghost use mathlib.Core.Path.{_≡_};
+ghost use Rattle.incremental.specs.Check.{beforeIndex, refusedFile};
+ghost use Rattle.incremental_rules.specs.Check.{checkedAs};
 use incremental_rules::Checked;
-use table::Description;
+use incremental_rules::Header;
+use table_rules::Description;
 
 // The refusal before the index is looked at: the one so far, the header's, the file's length (1).
 fn before_index(refused: usize, h: Header, len: usize) -> usize
@@ -20,7 +26,7 @@ fn before_index(refused: usize, h: Header, len: usize) -> usize
     if own != 0 {
         return own;
     }
-    if !manager_file::long_enough(len, h.size, h.count) {
+    if !buckets::file::long_enough(len, h.size, h.count) {
         return 1;
     }
     0
@@ -50,32 +56,26 @@ pub fn check(
     requires { ⌜ d .«column_count» ≤ 64 ⌝ }
     ensures { λ r. ⌜ r ≡ checkedAs d sequence (now (f .entry)) refused position row ⌝ }
 {
-    let h = incremental_header::read_header(f, d.big);
+    let h = crate::header::read_header(f, d.big);
     let before = before_index(refused, h, f.len());
     if before != 0 {
         return refuse(before);
     }
-    let x = incremental_text::read_index(f, 512 + h.count * h.size);
+    let x = crate::text::read_index(f, 512 + h.count * h.size);
     let own = x.refused;
     if own != 0 {
         return refuse(own);
     }
-    if !free_list::free_list_ok(f, h.size, h.count, h.free_count, h.first_free) {
+    if !buckets::free_list::free_list_ok(f, h.size, h.count, h.free_count, h.first_free) {
         return refuse(10);
     }
-    if !incremental_index::index_fits(f, h, x, d.rows) {
+    if !crate::index::index_fits(f, h, x, d.rows) {
         return refuse(11);
     }
     let columns = d.columns;
     let bindings = d.bindings;
-    let cells = incremental_columns::gather_cells(
-        columns,
-        bindings,
-        d.column_count,
-        sequence,
-        position,
-    );
-    let found = incremental_cells::find_cell(f, d.big, h.size, x, cells, row);
+    let cells = crate::columns::gather_cells(columns, bindings, d.column_count, sequence, position);
+    let found = crate::cells::find_cell(f, d.big, h.size, x, cells, row);
     let wrong = found.refused;
     if wrong != 0 {
         return refuse(wrong);

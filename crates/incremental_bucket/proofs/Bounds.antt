@@ -7,16 +7,14 @@ use Prim.Native.Nat.{ℕ, zero, suc, _+_, _≤_, zero-le}
 use native.Mathlib.Omega.{arith}
 use lib.Dec.{eqb}
 use borrow.Author.Tests.{leb-true}
-use Rattle.bytes_at.specs.Loop.{after}
-use Rattle.bytes_at.specs.Steps.{_>>=_}
-use Rattle.aipsio.specs.declared.Cursor.{Cursor}
-use Rattle.aipsio.specs.declared.Value.{Value}
-use Rattle.aipsio.specs.Field.{uintAt}
-use Rattle.aipsio.proofs.Kept.{clean-before, skipped-keeps}
-use Rattle.aipsio.proofs.Accepted.{judged-passed, judged-within}
-use Rattle.aipsio.proofs.Bounds.{settled-le}
-use Rattle.incremental_values.specs.Values.{offsetInto, offsetsAt}
-use Rattle.incremental_bucket.specs.Bucket.{dataAt, columnAt, columnInto, columnsAt, bucketAt}
+use Rattle.bytes_at.specs.Steps.{after, _>>=_}
+use Rattle.aipsio_rules.specs.declared.Cursor.{Cursor}
+use Rattle.aipsio_rules.specs.declared.Value.{Value}
+use Rattle.aipsio_rules.specs.Field.{uintAt}
+use Rattle.aipsio_rules.proofs.Kept.{clean-before, skipped-keeps}
+use Rattle.aipsio_rules.proofs.Accepted.{judged-passed, judged-within}
+use Rattle.aipsio_rules.proofs.Bounds.{settled-le}
+use Rattle.incremental_rules.specs.Bucket.{offsetInto, offsetsAt, dataAt, columnPartAt, columnPartInto, columnPartsAt, bucketAt}
 
 -- one of two numbers
 pub cond-le : (t : Bool) {a b m r : ℕ} → a ≤ m → b ≤ m → r ≡ cond t a b → r ≤ m
@@ -37,12 +35,12 @@ module _ (s : List ℕ) (limit : ℕ) where
   offsets-le bytes hit st zero h = h
   offsets-le bytes hit st (suc n) h = offset-le bytes hit _ n (offsets-le bytes hit st n h)
 
-  column-le : (c : Cursor) (rows row bytes : ℕ) → columnAt s c limit rows row bytes .value ≤ limit
-  unfolding columnAt offsetsAt _>>=_
+  column-le : (c : Cursor) (rows row bytes : ℕ) → columnPartAt s c limit rows row bytes .value ≤ limit
+  unfolding columnPartAt offsetsAt _>>=_
   column-le c rows row bytes = offsets-le bytes _ _ _ zero-le
 
-  columns-le : (rows row column : ℕ) (bytes : List ℕ) (st : Value) (n : ℕ) → st .value ≤ limit → after (columnInto s limit rows row column bytes) st n .value ≤ limit
-  unfolding after columnInto _>>=_
+  columns-le : (rows row column : ℕ) (bytes : List ℕ) (st : Value) (n : ℕ) → st .value ≤ limit → after (columnPartInto s limit rows row column bytes) st n .value ≤ limit
+  unfolding after columnPartInto _>>=_
   columns-le rows row column bytes st zero h = h
   columns-le rows row column bytes st (suc n) h =
       cond-le (eqb n column) (column-le _ rows row _) (columns-le rows row column bytes st n h) refl
@@ -53,7 +51,7 @@ data-le s c size =
     settled-le _ _ (λ e. let k = judged-within _ _ (uintAt s c .value) 4 size 10 (clean-before (skipped-keeps _ _) e) in omega arith)
 
 pub bucket-le : (f : List ℕ) (at size : ℕ) (big : Bool) (rows row column : ℕ) (bytes : List ℕ) (n : ℕ) → bucketAt f at size big rows row column bytes n .value ≤ size
-unfolding bucketAt columnsAt _>>=_
+unfolding bucketAt columnPartsAt _>>=_
 bucket-le f at size big rows row column bytes n =
     let c : Cursor = record { at = at; end = at + size; big = cond big 1 0; refused = 0 } in
     let l = data-le f c size in

@@ -6,10 +6,10 @@ use mathlib.Core.Bool.{Bool, true, false, cond}
 use Prim.Native.Nat.{ℕ, _+_}
 use lib.Dec.{leb, eqb}
 use Rattle.bytes_at.specs.Steps.{_>>=_}
-use Rattle.aipsio.specs.declared.Cursor.{Cursor}
-use Rattle.aipsio.specs.declared.Value.{Value}
-use Rattle.aipsio.specs.Field.{refusedAt, movedTo, skipped, judged, settled, uintAt}
-use Rattle.incremental_bucket.specs.Bucket.{dataAt}
+use Rattle.aipsio_rules.specs.declared.Cursor.{Cursor}
+use Rattle.aipsio_rules.specs.declared.Value.{Value}
+use Rattle.aipsio_rules.specs.Field.{refusedAt, movedTo, skipped, judged, settled, uintAt}
+use Rattle.incremental_rules.specs.Bucket.{dataAt}
 
 either : (t : Bool) (a b : Cursor) {e : ℕ} → a .end ≡ e → b .end ≡ e → cond t a b .end ≡ e
 either true a b p q = p

@@ -12,15 +12,15 @@ use lib.Dec.{leb, ltb, eqb}
 use borrow.Author.Tests.{lt-ltb, le-ltb, leb-true}
 use Rattle.bytes_at.specs.Number.{uintOf}
 use Rattle.bytes_at.proofs.Stepped.{via}
-use Rattle.aipsio.specs.declared.Cursor.{Cursor}
-use Rattle.aipsio.specs.declared.Value.{Value}
-use Rattle.aipsio.specs.Field.{refusedAt, movedTo, leftIn, judged, uintAt}
-use Rattle.aipsio.proofs.Kept.{Clean, Refused, refused-reads, skipped-keeps, judged-keeps, settled-none, uint-reads}
-use Rattle.aipsio.proofs.Sides.{judge-on, judge-refused, skip-on, skip-refused, settle-on}
-use Rattle.incremental_values.specs.declared.Starts.{Starts}
-use Rattle.incremental_values.specs.Values.{refusedValue, startsAt, offsetsAt}
-use Rattle.incremental_bucket.specs.Bucket.{dataAt, columnAt}
-use Rattle.incremental_values.proofs.Turns.{number-short, number-on, starts-none, offsets-none}
+use Rattle.aipsio_rules.specs.declared.Cursor.{Cursor}
+use Rattle.aipsio_rules.specs.declared.Value.{Value}
+use Rattle.aipsio_rules.specs.Field.{refusedAt, movedTo, leftIn, judged, uintAt}
+use Rattle.aipsio_rules.proofs.Kept.{Clean, Refused, refused-reads, skipped-keeps, judged-keeps, settled-none, uint-reads}
+use Rattle.aipsio_rules.proofs.Sides.{judge-on, judge-refused, skip-on, skip-refused, settle-on}
+use Rattle.incremental_rules.specs.declared.Starts.{Starts}
+use Rattle.incremental_bucket.specs.Values.{refusedValue}
+use Rattle.incremental_rules.specs.Bucket.{startsAt, offsetsAt, dataAt, columnPartAt}
+use Rattle.incremental_rules.proofs.Turns.{number-short, number-on, starts-none, offsets-none}
 
 pub within-least : (low x high : ℕ) {ok : Bool} → ok ≡ leb low x && leb x high → ok ≡ true → low ≤ x
 within-least low x high t z = go (leb low x) refl (sym t ∙ z)
@@ -110,32 +110,32 @@ module _ (s : List ℕ) (c : Cursor) where
 
   -- ---- the number of a column's values
   module _ (limit rows row bytes : ℕ) where
-    column-off : (d : Cursor) (n : ℕ) → Refused d → judged (uintAt s c .next) (c .at) (ltb 0 (uintAt s c .value)) 11 ≡ d → record { value = 0; next = d } ≡ columnAt s c limit rows row bytes
-    unfolding columnAt
+    column-off : (d : Cursor) (n : ℕ) → Refused d → judged (uintAt s c .next) (c .at) (ltb 0 (uintAt s c .value)) 11 ≡ d → record { value = 0; next = d } ≡ columnPartAt s c limit rows row bytes
+    unfolding columnPartAt
     column-off d n h e =
         via _ refl (
         via _ (sym e) (
         via _ (starts-none s rows row d _ h) (
         offsets-none s limit bytes 0 d _ h)))
 
-    pub column-kept : Refused c → record { value = 0; next = c } ≡ columnAt s c limit rows row bytes
+    pub column-kept : Refused c → record { value = 0; next = c } ≡ columnPartAt s c limit rows row bytes
     column-kept h = column-off c 0 h (rw (refused-reads (uint-reads s c) h) (judged-keeps c _ _ 11 .stays h))
 
     module _ (h : Clean c) {left : ℕ} (e : left ≡ leftIn c) where
-      pub column-short : left < 4 → refusedValue c (c .at) 1 ≡ columnAt s c limit rows row bytes
+      pub column-short : left < 4 → refusedValue c (c .at) 1 ≡ columnPartAt s c limit rows row bytes
       column-short l =
           column-off (refusedAt c (c .at) 1) 0 (λ z. omega arith)
           (rw (← (number-short s c h e l)) (judged-keeps (refusedAt c (c .at) 1) (c .at) _ 11 .stays (λ z. omega arith)))
 
       module _ {n : ℕ} (l : 4 ≤ left) (q : n ≡ uintOf (eqb (c .big) 1) 4 s (c .at)) where
-        pub column-none : n ≡ 0 → refusedValue c (c .at) 11 ≡ columnAt s c limit rows row bytes
+        pub column-none : n ≡ 0 → refusedValue c (c .at) 11 ≡ columnPartAt s c limit rows row bytes
         column-none z =
             column-off (refusedAt c (c .at) 11) n (λ y. omega arith)
             (rw (← (number-on s c h e l q)) (sym (judge-refused (movedTo c (c .at + 4)) refl (c .at) (ltb 0 n) 11 (le-ltb 0 n (omega arith)))))
 
         pub column-on : {st : Starts} {r : Value} → (n ≡ 0 → ⊥) → st ≡ startsAt s (movedTo c (c .at + 4)) n rows row
-            → r ≡ offsetsAt s (st .next) n limit bytes (st .hit) → r ≡ columnAt s c limit rows row bytes
-        unfolding columnAt
+            → r ≡ offsetsAt s (st .next) n limit bytes (st .hit) → r ≡ columnPartAt s c limit rows row bytes
+        unfolding columnPartAt
         column-on z p y =
             via _ (number-on s c h e l q) (
             via _ (judge-on (movedTo c (c .at + 4)) refl (c .at) (ltb 0 n) 11 (lt-ltb 0 n (omega arith))) (

@@ -2,6 +2,3 @@
 pub mod Heads
 pub mod Ends
 pub mod Bounds
-pub mod AnyCell
-pub mod Last
-pub mod Accepted

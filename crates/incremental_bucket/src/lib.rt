@@ -1,11 +1,14 @@
 // One bucket of an IncrementalStMan file (document 01, "IncrementalStMan"; Note 260, 3.4.3: Data Bucket): its check, which in
 // the same pass finds the offset of the value that a row has in a column. No byte of the data part is read.
-ghost use mathlib.Core.Path.{_≡_};
-ghost use Prim.Native.Nat.{_+_, _≤_};
+pub mod offsets;
+pub mod values;
+
+ghost use Prim.Native.Nat.{_≤_, _+_};
 ghost use lib.ListN.{length};
-ghost use Rattle.incremental_bucket.specs.Bucket.{orderOf, dataAt, columnAt, columnsAt, bucketAt};
-use aipsio::Cursor;
-use aipsio::Value;
+ghost use mathlib.Core.Path.{_≡_};
+ghost use Rattle.incremental_rules.specs.Bucket.{dataAt, columnPartAt, columnPartsAt, orderOf, bucketAt};
+use aipsio_rules::Cursor;
+use aipsio_rules::Value;
 
 // The index offset x of a bucket of so many bytes: how long its data part is, x - 4, and the cursor at its index part.
 fn read_data(s: &[u8], c: Cursor, size: usize) -> Value
@@ -21,17 +24,17 @@ fn read_data(s: &[u8], c: Cursor, size: usize) -> Value
     }
     let left = aipsio::left(c);
     if left < 4 {
-        return incremental_values::refuse(c, at, 1);
+        return crate::values::refuse(c, at, 1);
     }
     let x = bytes_at::word_there(s, at, big == 1);
     if 16777216 <= x {
-        return incremental_values::refuse(c, at, 3);
+        return crate::values::refuse(c, at, 3);
     }
     if !bytes_at::within(x, 4, size) {
-        return incremental_values::refuse(c, at, 11);
+        return crate::values::refuse(c, at, 11);
     }
     if left < x {
-        return incremental_values::refuse(c, at + 4, 1);
+        return crate::values::refuse(c, at + 4, 1);
     }
     Value {
         value: x - 4,
@@ -47,7 +50,7 @@ fn read_data(s: &[u8], c: Cursor, size: usize) -> Value
 // A column's part of the index: the number of its values, their starts, their offsets. Gives the offset of the row's value.
 fn read_column(s: &[u8], c: Cursor, limit: usize, rows: usize, row: usize, bytes: usize) -> Value
     requires { ⌜ c .end ≤ length (now s) ⌝ }
-    ensures { λ r. ⌜ r ≡ columnAt (now (s .entry)) c limit rows row bytes ⌝ }
+    ensures { λ r. ⌜ r ≡ columnPartAt (now (s .entry)) c limit rows row bytes ⌝ }
     ensures inside { λ r. ⌜ r .next .end ≡ c .end ⌝ }
 {
     let at = c.at;
@@ -58,11 +61,11 @@ fn read_column(s: &[u8], c: Cursor, limit: usize, rows: usize, row: usize, bytes
         return Value { value: 0, next: c };
     }
     if aipsio::left(c) < 4 {
-        return incremental_values::refuse(c, at, 1);
+        return crate::values::refuse(c, at, 1);
     }
     let n = bytes_at::word_there(s, at, big == 1);
     if n == 0 {
-        return incremental_values::refuse(c, at, 11);
+        return crate::values::refuse(c, at, 11);
     }
     let d = Cursor {
         at: at + 4,
@@ -70,8 +73,8 @@ fn read_column(s: &[u8], c: Cursor, limit: usize, rows: usize, row: usize, bytes
         big: big,
         refused: 0,
     };
-    let starts = incremental_values::read_starts(s, d, n, rows, row);
-    incremental_offsets::read_offsets(s, starts.next, n, limit, bytes, starts.hit)
+    let starts = crate::values::read_starts(s, d, n, rows, row);
+    crate::offsets::read_offsets(s, starts.next, n, limit, bytes, starts.hit)
 }
 
 // The n columns in turn, whose values take so many bytes each. Gives the offset of the row's value in the column.
@@ -86,14 +89,14 @@ fn read_columns(
     n: usize,
 ) -> Value
     requires { ⌜ (n ≤ 64) × (c .end ≤ length (now s)) ⌝ }
-    ensures { λ r. ⌜ r ≡ columnsAt (now (s .entry)) c limit rows row column (now (bytes .entry)) n ⌝ }
+    ensures { λ r. ⌜ r ≡ columnPartsAt (now (s .entry)) c limit rows row column (now (bytes .entry)) n ⌝ }
 {
     let mut offset = 0;
     let mut next = c;
     let mut k = 0;
     while k < n {
         let one = read_column(s, next, limit, rows, row, bytes[k]);
-        offset = incremental_values::choose(k == column, one.value, offset);
+        offset = crate::values::choose(k == column, one.value, offset);
         next = one.next;
         k += 1;
     }

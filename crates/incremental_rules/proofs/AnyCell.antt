@@ -7,21 +7,20 @@ use Prim.Native.Nat.{ℕ, zero, suc, _+_, _-_}
 use native.Mathlib.Decide.{ℕ-discrete}
 use lib.ListN.{getD}
 use borrow.Author.Tests.{eq-eqb, ne-eqb}
-use Rattle.bytes_at.specs.Loop.{after}
+use Rattle.bytes_at.specs.Steps.{after, _>>=_}
 use Rattle.bytes_at.specs.Stages.{_▷_}
-use Rattle.bytes_at.specs.Steps.{_>>=_}
-use Rattle.aipsio.specs.declared.Cursor.{Cursor}
-use Rattle.column_desc.specs.declared.Column.{Column}
-use Rattle.column_set.specs.declared.Binding.{Binding}
-use Rattle.column_set.specs.ColumnSet.{noBinding}
-use Rattle.buckets.specs.Chain.{startOf}
-use Rattle.row_index.specs.Numbers.{numberIn}
-use Rattle.incremental_text.specs.declared.Index.{Index}
-use Rattle.incremental_bucket.specs.Bucket.{bucketAt}
-use Rattle.incremental_bucket.proofs.AnyCell.{any-cell}
+use Rattle.aipsio_rules.specs.declared.Cursor.{Cursor}
+use Rattle.table_rules.specs.declared.Column.{Column}
+use Rattle.table_rules.specs.declared.Binding.{Binding}
+use Rattle.table_rules.specs.ColumnSet.{noBinding}
+use Rattle.standard_rules.specs.Header.{bucketStart}
+use Rattle.bytes_at.specs.Number.{numberIn}
+use Rattle.incremental_rules.specs.declared.Index.{Index}
+use Rattle.incremental_rules.specs.Bucket.{bucketAt, cellInto, cellsIn}
+use Rattle.incremental_rules.proofs.BucketAnyCell.{any-cell}
 use Rattle.incremental_rules.specs.declared.Cells.{Cells}
 use Rattle.incremental_rules.specs.declared.Found.{Found}
-use Rattle.incremental_rules.specs.Rules.{cellInto, cellsIn, foundAs, bucketInto, nothing, searchOf}
+use Rattle.incremental_rules.specs.Check.{foundAs, bucketInto, nothing, searchOf}
 
 -- the same columns, whichever is asked for
 pub record SameCells (a b : Cells) : Type 0 where
@@ -56,7 +55,7 @@ module _ (big : Bool) (f : List ℕ) (size : ℕ) (x : Index) where
   abbrev refusedIn : Cells → ℕ → ℕ → ℕ
   refusedIn cells row i =
       let first = numberIn true 4 f (x .firsts) i in
-      bucketAt f (startOf size (numberIn true 4 f (x .buckets) i)) size big (numberIn true 4 f (x .firsts) (i + 1) - first) (row - first) (cells .column) (cells .bytes) (cells .count) .next .refused
+      bucketAt f (bucketStart size (numberIn true 4 f (x .buckets) i)) size big (numberIn true 4 f (x .firsts) (i + 1) - first) (row - first) (cells .column) (cells .bytes) (cells .count) .next .refused
 
   pub turn-refused : (cells : Cells) (row : ℕ) (found : Found) (i : ℕ) → bucketInto big f size x cells row found i .refused ≡ found .refused ▷ refusedIn cells row i
   unfolding bucketInto _>>=_

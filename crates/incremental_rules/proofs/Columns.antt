@@ -13,15 +13,14 @@ use lib.ListN.{length, getD, length-set, length-replicate}
 use lib.Seq.{getD-set-same, getD-set-other}
 use lib.Dec.{eqb}
 use borrow.Author.Tests.{eq-eqb, ne-eqb}
-use Rattle.bytes_at.specs.Loop.{after}
-use Rattle.column_desc.specs.declared.Column.{Column}
-use Rattle.column_desc.specs.ColumnDesc.{blank}
-use Rattle.column_set.specs.declared.Binding.{Binding}
-use Rattle.column_set.specs.ColumnSet.{noBinding}
-use Rattle.incremental_bucket.specs.Value.{partOf}
+use Rattle.bytes_at.specs.Steps.{after}
+use Rattle.table_rules.specs.declared.Column.{Column}
+use Rattle.table_rules.specs.ColumnDesc.{noColumn}
+use Rattle.table_rules.specs.declared.Binding.{Binding}
+use Rattle.table_rules.specs.ColumnSet.{noBinding}
+use Rattle.incremental_rules.specs.Place.{partOf, partAt}
 use Rattle.incremental_rules.specs.declared.Cells.{Cells}
-use Rattle.incremental_rules.specs.Rules.{cellBytes, noCells, cellMore, cellInto, cellsIn}
-use Rattle.incremental_rules.specs.Places.{partAt}
+use Rattle.incremental_rules.specs.Bucket.{cellBytes, noCells, cellMore, cellInto, cellsIn}
 
 module _ (cs : List Column) (bs : List Binding) (sequence position : ℕ) where
   -- whether a column is bound to the manager
@@ -31,7 +30,7 @@ module _ (cs : List Column) (bs : List Binding) (sequence position : ℕ) where
   -- the column at the position is one of those gathered
   pub record Asked (cells : Cells) : Type 0 where
     pub known : cells .column < cells .count
-    pub bytes : getD (cells .bytes) (cells .column) 0 ≡ cellBytes (getD cs position blank)
+    pub bytes : getD (cells .bytes) (cells .column) 0 ≡ cellBytes (getD cs position noColumn)
     pub part : (big : Bool) (f : List ℕ) (at : ℕ) → partOf big f at (cells .column) ≡ partAt big f at bound position
 
   -- of k columns
@@ -60,12 +59,12 @@ module _ (cs : List Column) (bs : List Binding) (sequence position : ℕ) where
     unfolding partAt
     part-off e big f at = rw e (v .part big f at)
 
-    asked-on : position < suc k → bound position ≡ true → Asked (cellMore (getD cs k blank) k position cells)
+    asked-on : position < suc k → bound position ≡ true → Asked (cellMore (getD cs k noColumn) k position cells)
     asked-on h b =
         elim (ℕ-discrete k position) [
           | yes q ↦ rw (eq-eqb k position q) (record {
             known = omega arith;
-            bytes = getD-set-same (cells .bytes) (cells .count) _ 0 (omega (arith, v .few, v .long)) ∙ ap (λ (i : ℕ). cellBytes (getD cs i blank)) q;
+            bytes = getD-set-same (cells .bytes) (cells .count) _ 0 (omega (arith, v .few, v .long)) ∙ ap (λ (i : ℕ). cellBytes (getD cs i noColumn)) q;
             part = λ big f at. v .part big f at ∙ ap (partAt big f at bound) q;
           })
           | no q ↦
@@ -77,7 +76,7 @@ module _ (cs : List Column) (bs : List Binding) (sequence position : ℕ) where
               })
         ]
 
-    gathered-on : bound k ≡ true → Gathered (suc k) (cellMore (getD cs k blank) k position cells)
+    gathered-on : bound k ≡ true → Gathered (suc k) (cellMore (getD cs k noColumn) k position cells)
     gathered-on e = record {
       few = omega (arith, v .few);
       long = length-set (cells .bytes) (cells .count) _ ∙ v .long;

@@ -1,7 +1,12 @@
 -- Laws that proofs of the crates above cite.
+pub mod BucketAnyCell
+pub mod Last
+pub mod Accepted
+pub mod Turns
 pub mod AnyCell
 pub mod Columns
 pub mod Search
 pub mod Rows
 pub mod Places
 pub mod Vectors
+pub mod IndexVectors

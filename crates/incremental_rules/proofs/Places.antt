@@ -11,22 +11,24 @@ use lib.Dec.{T}
 use borrow.Author.Tests.{ne-eqb}
 use Rattle.bytes_at.specs.Number.{uintOf}
 use Rattle.bytes_at.proofs.Stages.{then-left, then-right, or-passed}
-use Rattle.column_desc.specs.ColumnDesc.{blank}
-use Rattle.column_set.specs.ColumnSet.{noBinding}
-use Rattle.table.specs.declared.Description.{Description}
-use Rattle.buckets.specs.Chain.{startOf}
-use Rattle.cell_map.specs.Fits.{ceil8}
-use Rattle.cell_map.specs.Demand.{Apart}
-use Rattle.cell_map.proofs.Places.{step}
-use Rattle.incremental_header.specs.declared.Header.{Header}
-use Rattle.incremental_text.specs.declared.Index.{Index}
-use Rattle.incremental_header.specs.Header.{headerAt}
-use Rattle.incremental_bucket.specs.Value.{offsetIn}
-use Rattle.incremental_bucket.proofs.Accepted.{InBucket, bucket-read}
+use Rattle.table_rules.specs.ColumnDesc.{noColumn}
+use Rattle.table_rules.specs.ColumnSet.{noBinding}
+use Rattle.table_rules.specs.declared.Description.{Description}
+use Rattle.standard_rules.specs.Header.{bucketStart}
+use Rattle.standard_rules.specs.Place.{bucketBits}
+use Rattle.standard_rules.specs.Map.{ceil8}
+use Rattle.standard_rules.specs.Demand.{Apart}
+use Rattle.standard_rules.proofs.Places.{step}
+use Rattle.incremental_rules.specs.declared.Header.{Header}
+use Rattle.incremental_rules.specs.declared.Index.{Index}
+use Rattle.incremental_rules.specs.Header.{headerAt}
+use Rattle.incremental_rules.specs.Place.{offsetIn, firstRow, bucketNumber, entryOf, isBound, partAt, bitOf, placeOf, Safe, EveryPlace}
+use Rattle.incremental_rules.proofs.Accepted.{InBucket, bucket-read}
 use Rattle.incremental_rules.specs.declared.Cells.{Cells}
 use Rattle.incremental_rules.specs.declared.Found.{Found}
-use Rattle.incremental_rules.specs.Rules.{indexFits, cellBytes, cellsOf, searchOf, indexOf, refusalOf, firstBit, checkedAs}
-use Rattle.incremental_rules.specs.Places.{firstRow, bucketNumber, entryOf, isBound, partAt, bitOf, placeOf, bucketBits, Safe, EveryPlace}
+use Rattle.incremental_rules.specs.Index.{indexFits, indexOf}
+use Rattle.incremental_rules.specs.Bucket.{cellBytes, cellsOf}
+use Rattle.incremental_rules.specs.Check.{searchOf, refusalOf, firstBit, checkedAs}
 use Rattle.incremental_rules.proofs.AnyCell.{cells-same, search-same}
 use Rattle.incremental_rules.proofs.Columns.{Asked, asked-is}
 use Rattle.incremental_rules.proofs.Search.{FoundIn, bucketIn, search-found}
@@ -60,7 +62,7 @@ module _ (d : Description) (sequence : ℕ) (f : List ℕ) (refused : ℕ) (z : 
     entry = entryOf f index row
 
     abbrev start : ℕ
-    start = startOf (header .size) (bucketNumber f index entry)
+    start = bucketStart (header .size) (bucketNumber f index entry)
 
     abbrev offset : ℕ
     offset = offsetIn (d .big) f (partAt (d .big) f (start + uintOf (d .big) 4 f start) (isBound d sequence) position) (row - firstRow f index entry)
@@ -92,14 +94,14 @@ module _ (d : Description) (sequence : ℕ) (f : List ℕ) (refused : ℕ) (z : 
     unfolding checkedAs
     checked-there = rw (z) found-there
 
-    offset-fits : offset + cellBytes (getD (d .columns) position blank) ≤ uintOf (d .big) 4 f start - 4
+    offset-fits : offset + cellBytes (getD (d .columns) position noColumn) ≤ uintOf (d .big) 4 f start - 4
     offset-fits = omega (arith, in-bucket .fits (asked .known), offset-is, asked .bytes)
 
-    module _ (no-string : getD (d .columns) position blank .datatype .number ≡ 11 → ⊥) where
-      bytes-are : cellBytes (getD (d .columns) position blank) ≡ ceil8 (getD (d .columns) position blank .bits)
+    module _ (no-string : getD (d .columns) position noColumn .datatype .number ≡ 11 → ⊥) where
+      bytes-are : cellBytes (getD (d .columns) position noColumn) ≡ ceil8 (getD (d .columns) position noColumn .bits)
       bytes-are = rw (ne-eqb _ _ no-string)
 
-      off-bucket : (b : ℕ) → (bucketNumber f index entry ≡ b → ⊥) → Apart (placeOf d sequence f position row) (bucketBits header b)
+      off-bucket : (b : ℕ) → (bucketNumber f index entry ≡ b → ⊥) → Apart (placeOf d sequence f position row) (bucketBits (header .size) b)
       unfolding placeOf bitOf
       off-bucket b n i p q r s =
           elim (decLt (bucketNumber f index entry) b) [

@@ -11,17 +11,16 @@ use lib.ListN.{length, getD}
 use lib.Dec.{T, leb, ltb, eqb, eqb→eq}
 use store.Enc.{and-l, and-r}
 use borrow.Author.Tests.{leb-true, leb-false, le-leb}
-use Rattle.bytes_at.specs.Number.{uintOf}
-use Rattle.buckets.specs.Chain.{links}
-use Rattle.row_index.specs.Numbers.{numbersAt}
-use Rattle.row_index.proofs.Numbers.{numbers-length, number-at}
-use Rattle.marks.specs.Different.{allApart}
-use Rattle.marks.proofs.Apart.{front-below, front-back}
-use Rattle.incremental_header.specs.declared.Header.{Header}
-use Rattle.incremental_text.specs.declared.Index.{Index}
-use Rattle.incremental_bucket.proofs.Last.{last-below, last-passes, last-later}
-use Rattle.incremental_rules.specs.Rules.{risesTo, firstsFit, indexFits}
-use Rattle.incremental_rules.specs.Places.{firstRow, bucketNumber, entryOf}
+use Rattle.bytes_at.specs.Number.{uintOf, numbersAt}
+use Rattle.standard_rules.specs.Index.{links}
+use Rattle.bytes_at.proofs.Listed.{numbers-length, number-at}
+use Rattle.bytes_at.specs.Lists.{allApart}
+use Rattle.bytes_at.proofs.Apart.{front-below, front-back}
+use Rattle.incremental_rules.specs.declared.Header.{Header}
+use Rattle.incremental_rules.specs.declared.Index.{Index}
+use Rattle.incremental_rules.proofs.Last.{last-below, last-passes, last-later}
+use Rattle.incremental_rules.specs.Index.{risesTo, firstsFit, indexFits}
+use Rattle.incremental_rules.specs.Place.{firstRow, bucketNumber, entryOf}
 
 module _ (rows : ℕ) (f : List ℕ) where
   -- first rows that rise to the row count end there

@@ -9,18 +9,17 @@ use native.Mathlib.Nat.{not-suc-le-zero}
 use native.Mathlib.Omega.{arith}
 use lib.Dec.{leb}
 use borrow.Author.Tests.{eq-eqb}
-use Rattle.bytes_at.specs.Loop.{after}
-use Rattle.bytes_at.specs.Steps.{_>>=_}
+use Rattle.bytes_at.specs.Steps.{after, _>>=_}
 use Rattle.bytes_at.proofs.Stages.{then-left, then-right}
-use Rattle.aipsio.specs.declared.Value.{Value}
-use Rattle.buckets.specs.Chain.{startOf}
-use Rattle.incremental_text.specs.declared.Index.{Index}
-use Rattle.incremental_bucket.specs.Bucket.{bucketAt}
-use Rattle.incremental_bucket.specs.Value.{lastBelow}
+use Rattle.aipsio_rules.specs.declared.Value.{Value}
+use Rattle.standard_rules.specs.Header.{bucketStart}
+use Rattle.incremental_rules.specs.declared.Index.{Index}
+use Rattle.incremental_rules.specs.Bucket.{bucketAt}
+use Rattle.bytes_at.specs.Lists.{lastBelow}
 use Rattle.incremental_rules.specs.declared.Cells.{Cells}
 use Rattle.incremental_rules.specs.declared.Found.{Found}
-use Rattle.incremental_rules.specs.Rules.{foundAs, bucketInto, nothing, searchOf}
-use Rattle.incremental_rules.specs.Places.{firstRow, bucketNumber, entryOf}
+use Rattle.incremental_rules.specs.Check.{foundAs, bucketInto, nothing, searchOf}
+use Rattle.incremental_rules.specs.Place.{firstRow, bucketNumber, entryOf}
 use Rattle.incremental_rules.proofs.AnyCell.{turn-refused}
 
 found-clean : (refused start offset : ℕ) → refused ≡ 0 → foundAs refused start offset ≡ record { start = start; offset = offset; refused = 0 }
@@ -31,20 +30,20 @@ module _ (big : Bool) (f : List ℕ) (size : ℕ) (x : Index) (cells : Cells) (r
   -- what bucket i of the index gives
   abbrev pub bucketIn : ℕ → Value
   bucketIn i =
-      bucketAt f (startOf size (bucketNumber f x i)) size big (firstRow f x (i + 1) - firstRow f x i) (row - firstRow f x i) (cells .column) (cells .bytes) (cells .count)
+      bucketAt f (bucketStart size (bucketNumber f x i)) size big (firstRow f x (i + 1) - firstRow f x i) (row - firstRow f x i) (cells .column) (cells .bytes) (cells .count)
 
   abbrev notAbove : ℕ → Bool
   notAbove i = leb (firstRow f x i) row
 
   -- of n buckets, that of entry e was found
   pub record FoundIn (n e : ℕ) (found : Found) : Type 0 where
-    pub start : found .start ≡ startOf size (bucketNumber f x e)
+    pub start : found .start ≡ bucketStart size (bucketNumber f x e)
     pub offset : found .offset ≡ bucketIn e .value
     pub clean : bucketIn e .next .refused ≡ 0
 
   turn-is : (found : Found) (i : ℕ) → bucketInto big f size x cells row found i .refused ≡ 0
       → bucketInto big f size x cells row found i ≡ record {
-        start = cond (notAbove i) (startOf size (bucketNumber f x i)) (found .start);
+        start = cond (notAbove i) (bucketStart size (bucketNumber f x i)) (found .start);
         offset = cond (notAbove i) (bucketIn i .value) (found .offset);
         refused = 0;
       }
@@ -57,7 +56,7 @@ module _ (big : Bool) (f : List ℕ) (size : ℕ) (x : Index) (cells : Cells) (r
   search-more n found z v e = rw (turn-is found n e) (go (notAbove n) refl)
     where
       go : (b : Bool) → notAbove n ≡ b → FoundIn (suc n) (cond (notAbove n) n (lastBelow notAbove n)) (record {
-        start = cond (notAbove n) (startOf size (bucketNumber f x n)) (found .start);
+        start = cond (notAbove n) (bucketStart size (bucketNumber f x n)) (found .start);
         offset = cond (notAbove n) (bucketIn n .value) (found .offset);
         refused = 0;
       })

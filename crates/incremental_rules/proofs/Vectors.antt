@@ -7,50 +7,45 @@ use mathlib.Core.List.{List, [], _∷_, _++_}
 use mathlib.Core.Bool.{Bool, true, false}
 use Prim.Native.Nat.{ℕ}
 use lib.ListN.{take, set, replicate}
-use Rattle.bytes_at.specs.Number.{bigFrom, uintOf, bigBytes as row}
+use Rattle.bytes_at.specs.Number.{bigFrom, uintOf, numbersAt, bigBytes}
 use Rattle.bytes_at.specs.Bytes.{sameBytes}
-use Rattle.bytes_at.specs.Loop.{after}
+use Rattle.bytes_at.specs.Steps.{after, _>>=_}
 use Rattle.bytes_at.specs.Stages.{_▷_, orNo}
-use Rattle.bytes_at.specs.Steps.{_>>=_}
-use Rattle.aipsio.specs.Field.{skipped, skippedEach, judged, settled, sizedAt, uintAt, rangedAt, agreed, markAt, textBefore, textAt, nameAt}
-use Rattle.aipsio_objects.specs.Object.{entered, opened, closed, blockAt}
-use Rattle.column_desc.specs.declared.Column.{Column}
-use Rattle.column_desc.specs.ColumnDesc.{blank}
-use Rattle.column_set.specs.declared.Binding.{Binding}
-use Rattle.column_set.specs.ColumnSet.{noBinding}
-use Rattle.table.specs.declared.Description.{Description}
-use Rattle.buckets.specs.Chain.{links, freeOk}
-use Rattle.cell_map.specs.Tests.{all, pairs}
-use Rattle.row_index.specs.Numbers.{numbersAt}
-use Rattle.marks.specs.Different.{allApart}
-use Rattle.incremental_header.specs.Header.{fieldsAt, headed, headerIn}
-use Rattle.incremental_text.specs.Index.{indexed, indexIn}
-use Rattle.incremental_text.proofs.Vectors.{header, object}
-use Rattle.incremental_values.specs.Values.{startFits, started, startInto, startsAt, offsetInto, offsetsAt}
-use Rattle.incremental_bucket.specs.Bucket.{dataAt, columnAt, columnInto, columnsAt, bucketAt}
-use Rattle.incremental_bucket.specs.Value.{lastBelow}
-use Rattle.incremental_rules.specs.Rules.{risesTo, firstsFit, indexFits, cellInto, cellsIn, foundAs, bucketInto, searchOf, refusalOf, checkedAs}
-use Rattle.incremental_rules.specs.Places.{partAt, bitOf, placeOf}
+use Rattle.aipsio_rules.specs.Field.{skipped, skippedEach, judged, settled, sizedAt, uintAt, rangedAt, agreed, markAt, textBefore, textAt, nameAt}
+use Rattle.aipsio_rules.specs.Object.{entered, opened, closed, blockAt}
+use Rattle.table_rules.specs.declared.Column.{Column}
+use Rattle.table_rules.specs.ColumnDesc.{noColumn}
+use Rattle.table_rules.specs.declared.Binding.{Binding}
+use Rattle.table_rules.specs.ColumnSet.{noBinding}
+use Rattle.table_rules.specs.declared.Description.{Description}
+use Rattle.standard_rules.specs.Index.{links, freeOk}
+use Rattle.bytes_at.specs.Lists.{all, pairs, allApart, lastBelow}
+use Rattle.incremental_rules.specs.Header.{fieldsAt, headed, headerIn}
+use Rattle.incremental_rules.specs.Index.{indexed, indexIn, risesTo, firstsFit, indexFits}
+use Rattle.incremental_rules.proofs.IndexVectors.{header, object}
+use Rattle.incremental_rules.specs.Bucket.{startFits, started, startInto, startsAt, offsetInto, offsetsAt, dataAt, columnPartAt, columnPartInto, columnPartsAt, bucketAt, cellInto, cellsIn}
+use Rattle.incremental_rules.specs.Check.{foundAs, bucketInto, searchOf, refusalOf, checkedAs}
+use Rattle.incremental_rules.specs.Place.{partAt, bitOf, placeOf}
 
 -- bucket 0: index offset 10; SCAN has one value, FLAG two, from its rows 0 and 3 on
 abbrev bucket0 : List ℕ
 bucket0 =
-    row 4 10 ++ replicate 6 0
-    ++ row 12 0x000000010000000000000000
-    ++ row 20 0x0000000200000000000000030000000400000005
+    bigBytes 4 10 ++ replicate 6 0
+    ++ bigBytes 12 0x000000010000000000000000
+    ++ bigBytes 20 0x0000000200000000000000030000000400000005
     ++ replicate 22 0
 
 -- bucket 1: index offset 13; SCAN has two values, from its rows 0 and 2 on, FLAG one
 abbrev bucket1 : List ℕ
 bucket1 =
-    row 4 13 ++ replicate 9 0
-    ++ row 20 0x0000000200000000000000020000000000000004
-    ++ row 12 0x000000010000000000000008
+    bigBytes 4 13 ++ replicate 9 0
+    ++ bigBytes 20 0x0000000200000000000000020000000000000004
+    ++ bigBytes 12 0x000000010000000000000008
     ++ replicate 19 0
 
 -- bucket 2 ends the free list
 abbrev bucket2 : List ℕ
-bucket2 = row 4 0xffffffff ++ replicate 60 0
+bucket2 = bigBytes 4 0xffffffff ++ replicate 60 0
 
 abbrev file : List ℕ
 file = header ++ replicate 455 0 ++ bucket0 ++ bucket1 ++ bucket2 ++ object
@@ -95,7 +90,7 @@ pub places :
     × (placeOf (table true) 0 file 2 6 ≡ record { first = 4168; count = 8 })
     × (checkedAs (table true) 0 file 0 2 6 ≡ record { refused = 0; size = 64; first = 4168 })
     × (checkedAs (table true) 0 file 8 2 6 ≡ record { refused = 8; size = 0; first = 0 })
-unfolding bigFrom uintOf sameBytes skipped skippedEach judged settled sizedAt uintAt rangedAt agreed markAt textBefore textAt nameAt entered opened closed blockAt fieldsAt headed headerIn indexed indexIn links freeOk numbersAt all pairs allApart dataAt startFits started startInto startsAt offsetInto offsetsAt columnAt columnInto columnsAt bucketAt lastBelow partAt bitOf placeOf risesTo firstsFit indexFits cellInto cellsIn foundAs bucketInto searchOf refusalOf checkedAs blank noBinding _▷_ orNo after _>>=_
+unfolding bigFrom uintOf sameBytes skipped skippedEach judged settled sizedAt uintAt rangedAt agreed markAt textBefore textAt nameAt entered opened closed blockAt fieldsAt headed headerIn indexed indexIn links freeOk numbersAt all pairs allApart dataAt startFits started startInto startsAt offsetInto offsetsAt columnPartAt columnPartInto columnPartsAt bucketAt lastBelow partAt bitOf placeOf risesTo firstsFit indexFits cellInto cellsIn foundAs bucketInto searchOf refusalOf checkedAs noColumn noBinding _▷_ orNo after _>>=_
 places = (refl, refl, refl, refl, refl, refl, refl, refl)
 
 -- a file that ends in the last bucket; the other endianness; Blocks shorter than the count; a free list that does not end; a free
@@ -108,7 +103,7 @@ pub file-faults :
     × (refused (set file 789 2) ≡ 11)
     × (refused (set file 789 3) ≡ 11)
     × (refused (set file 764 8) ≡ 11)
-unfolding bigFrom uintOf sameBytes skipped skippedEach judged settled sizedAt uintAt rangedAt agreed markAt textBefore textAt nameAt entered opened closed blockAt fieldsAt headed headerIn indexed indexIn links freeOk numbersAt all pairs allApart dataAt startFits started startInto startsAt offsetInto offsetsAt columnAt columnInto columnsAt bucketAt risesTo firstsFit indexFits cellInto cellsIn foundAs bucketInto searchOf refusalOf blank noBinding _▷_ orNo after _>>=_
+unfolding bigFrom uintOf sameBytes skipped skippedEach judged settled sizedAt uintAt rangedAt agreed markAt textBefore textAt nameAt entered opened closed blockAt fieldsAt headed headerIn indexed indexIn links freeOk numbersAt all pairs allApart dataAt startFits started startInto startsAt offsetInto offsetsAt columnPartAt columnPartInto columnPartsAt bucketAt risesTo firstsFit indexFits cellInto cellsIn foundAs bucketInto searchOf refusalOf noColumn noBinding _▷_ orNo after _>>=_
 file-faults = (refl, refl, refl, refl, refl, refl, refl)
 
 -- in bucket 0, an index offset whose high byte is 1, of 3, of 65, and of 64, where the bucket ends; no value of SCAN; a first start
@@ -124,5 +119,5 @@ pub bucket-faults :
     × (refused (set file 545 0) ≡ 11)
     × (refused (set file 533 2) ≡ 0)
     × (refused (set file 533 3) ≡ 11)
-unfolding bigFrom uintOf sameBytes skipped skippedEach judged settled sizedAt uintAt rangedAt agreed markAt textBefore textAt nameAt entered opened closed blockAt fieldsAt headed headerIn indexed indexIn links freeOk numbersAt all pairs allApart dataAt startFits started startInto startsAt offsetInto offsetsAt columnAt columnInto columnsAt bucketAt risesTo firstsFit indexFits cellInto cellsIn foundAs bucketInto searchOf refusalOf blank noBinding _▷_ orNo after _>>=_
+unfolding bigFrom uintOf sameBytes skipped skippedEach judged settled sizedAt uintAt rangedAt agreed markAt textBefore textAt nameAt entered opened closed blockAt fieldsAt headed headerIn indexed indexIn links freeOk numbersAt all pairs allApart dataAt startFits started startInto startsAt offsetInto offsetsAt columnPartAt columnPartInto columnPartsAt bucketAt risesTo firstsFit indexFits cellInto cellsIn foundAs bucketInto searchOf refusalOf noColumn noBinding _▷_ orNo after _>>=_
 bucket-faults = (refl, refl, refl, refl, refl, refl, refl, refl, refl, refl)

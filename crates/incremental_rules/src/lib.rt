@@ -1,5 +1,34 @@
-// The rules of IncrementalStMan files (document 01, "IncrementalStMan"), as definitions over the bytes: `specs/`. The code that
-// follows them is in `incremental`.
+// The rules of IncrementalStMan files (document 01, "IncrementalStMan"; Note 260, 3.4.3), as definitions over the bytes: `specs/`, in
+// the chapter's order; what both managers share stands in `standard_rules`. Here stand the types that they speak of. The code that
+// follows them is in `incremental_bucket` and `incremental`.
+use aipsio_rules::Cursor;
+
+// The header's fields, and the cursor past them.
+pub struct HeaderFields {
+    pub size: usize,
+    pub count: usize,
+    pub free_count: usize,
+    pub first_free: usize,
+    pub next: Cursor,
+}
+
+// The numbers of a header; zeros and the number where it is refused.
+pub struct Header {
+    pub size: usize,
+    pub count: usize,
+    pub free_count: usize,
+    pub first_free: usize,
+    pub refused: usize,
+}
+
+// The index of a file: the number of its entries, and where in the file its first rows, one more than entries, and its bucket
+// numbers start; zeros and the number where it is refused.
+pub struct Index {
+    pub count: usize,
+    pub firsts: usize,
+    pub buckets: usize,
+    pub refused: usize,
+}
 
 // The columns that a file keeps, in table order: the bytes of a cell of each, 0 for a String, whose offset alone is judged; how
 // many they are; and which of them is asked for, 64 where it is none.
@@ -7,6 +36,14 @@ pub struct Cells {
     pub bytes: [usize; 64],
     pub count: usize,
     pub column: usize,
+}
+
+// The starts of a column's values: the last one, and which is the last that is not above the row; zeros where the cursor is
+// refused.
+pub struct Starts {
+    pub last: usize,
+    pub hit: usize,
+    pub next: Cursor,
 }
 
 // Where the bucket of the row that is asked for starts, and the offset of the row's value in the column; zeros and the number

@@ -1,6 +1,6 @@
 // Reads a table.dat on standard input and prints its row count and its columns, or the number of its refusal.
-use column_desc::Column;
 use libc::STDOUT_FILENO;
+use table_rules::Column;
 
 fn print(text: &[u8]) {
     io::write_all(STDOUT_FILENO, text);

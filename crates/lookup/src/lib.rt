@@ -1,6 +1,11 @@
-// The public questions over a table and a data file (document 01, "The questions"), each one question to `lookup_ask::ask`.
+// The public questions over a table and a data file (document 01, "The questions"), each one question to `lookup::ask::ask`.
+pub mod answer;
+pub mod ask;
+
 ghost use mathlib.Core.Path.{_≡_};
 ghost use lib.ListN.{length};
+ghost use Prim.Native.Nat.{_+_, _/_};
+ghost use denote.Ref.{ptr};
 ghost use Rattle.lookup_rules.specs.Questions.{answerOf, roomAfter, verdictOf, planOf, placedOf, viewOf};
 use lookup_rules::Placed;
 use lookup_rules::Plan;
@@ -12,32 +17,32 @@ use lookup_rules::Verdict;
 pub fn check(table: &[u8], file: &[u8], sequence: usize, room: &mut [u8]) -> Verdict
     ensures { λ r. ⌜ (r ≡ verdictOf (answerOf (now (table .entry)) (now (file .entry)) (Question.Check sequence) (length (now (room .entry))))) × (now (room .exit) ≡ roomAfter (now (table .entry)) (now (file .entry)) (Question.Check sequence) (length (now (room .entry)))) ⌝ }
 {
-    let a = lookup_ask::ask(table, file, Question::Check(sequence), room);
-    answer_types::verdict(a)
+    let a = crate::ask::ask(table, file, Question::Check(sequence), room);
+    lookup_question::types::verdict(a)
 }
 
 // Plan.
 pub fn make_plan(table: &[u8], file: &[u8], position: usize, room: &mut [u8]) -> Planned
     ensures { λ r. ⌜ (r ≡ planOf (answerOf (now (table .entry)) (now (file .entry)) (Question.Prepare position) (length (now (room .entry))))) × (now (room .exit) ≡ roomAfter (now (table .entry)) (now (file .entry)) (Question.Prepare position) (length (now (room .entry)))) ⌝ }
 {
-    let a = lookup_ask::ask(table, file, Question::Prepare(position), room);
-    answer_types::planned(a)
+    let a = crate::ask::ask(table, file, Question::Prepare(position), room);
+    lookup_question::types::planned(a)
 }
 
 // Place of a row and a column position.
 pub fn place(table: &[u8], file: &[u8], row: usize, position: usize, room: &mut [u8]) -> Placed
     ensures { λ r. ⌜ (r ≡ placedOf (answerOf (now (table .entry)) (now (file .entry)) (Question.Place row position) (length (now (room .entry))))) × (now (room .exit) ≡ roomAfter (now (table .entry)) (now (file .entry)) (Question.Place row position) (length (now (room .entry)))) ⌝ }
 {
-    let a = lookup_ask::ask(table, file, Question::Place(row, position), room);
-    answer_types::placed(a)
+    let a = crate::ask::ask(table, file, Question::Place(row, position), room);
+    lookup_question::types::placed(a)
 }
 
 // Place of a row by a prepared plan.
 pub fn place_planned(table: &[u8], file: &[u8], row: usize, plan: Plan, room: &mut [u8]) -> Placed
     ensures { λ r. ⌜ (r ≡ placedOf (answerOf (now (table .entry)) (now (file .entry)) (Question.PlacePlanned row plan) (length (now (room .entry))))) × (now (room .exit) ≡ roomAfter (now (table .entry)) (now (file .entry)) (Question.PlacePlanned row plan) (length (now (room .entry)))) ⌝ }
 {
-    let a = lookup_ask::ask(table, file, Question::PlacePlanned(row, plan), room);
-    answer_types::placed(a)
+    let a = crate::ask::ask(table, file, Question::PlacePlanned(row, plan), room);
+    lookup_question::types::placed(a)
 }
 
 // View of a row and a column position: the part of the file that holds the cell, the empty part where it is refused.
@@ -48,10 +53,10 @@ pub fn view<'f>(
     position: usize,
     room: &mut [u8],
 ) -> &'f [u8]
-    ensures { λ r. ⌜ (now r ≡ viewOf (now (file .entry)) (answerOf (now (table .entry)) (now (file .entry)) (Question.View row position) (length (now (room .entry))))) × (now (room .exit) ≡ roomAfter (now (table .entry)) (now (file .entry)) (Question.View row position) (length (now (room .entry)))) ⌝ }
+    ensures { λ r. ⌜ (now r ≡ viewOf (now (file .entry)) (answerOf (now (table .entry)) (now (file .entry)) (Question.View row position) (length (now (room .entry))))) × (ptr r ≡ (ptr (file .entry) .0, ptr (file .entry) .1 + answerOf (now (table .entry)) (now (file .entry)) (Question.View row position) (length (now (room .entry))) .first / 8)) × (now (room .exit) ≡ roomAfter (now (table .entry)) (now (file .entry)) (Question.View row position) (length (now (room .entry)))) ⌝ }
 {
-    let a = lookup_ask::ask(table, file, Question::View(row, position), room);
-    answer_types::part_of(file, a)
+    let a = crate::ask::ask(table, file, Question::View(row, position), room);
+    lookup_question::types::part_of(file, a)
 }
 
 // Why that view is refused; 0 where it is not.
@@ -64,7 +69,7 @@ pub fn view_refusal(
 ) -> usize
     ensures { λ r. ⌜ (r ≡ answerOf (now (table .entry)) (now (file .entry)) (Question.View row position) (length (now (room .entry))) .refused) × (now (room .exit) ≡ roomAfter (now (table .entry)) (now (file .entry)) (Question.View row position) (length (now (room .entry)))) ⌝ }
 {
-    let a = lookup_ask::ask(table, file, Question::View(row, position), room);
+    let a = crate::ask::ask(table, file, Question::View(row, position), room);
     a.refused
 }
 
@@ -76,10 +81,10 @@ pub fn view_planned<'f>(
     plan: Plan,
     room: &mut [u8],
 ) -> &'f [u8]
-    ensures { λ r. ⌜ (now r ≡ viewOf (now (file .entry)) (answerOf (now (table .entry)) (now (file .entry)) (Question.ViewPlanned row plan) (length (now (room .entry))))) × (now (room .exit) ≡ roomAfter (now (table .entry)) (now (file .entry)) (Question.ViewPlanned row plan) (length (now (room .entry)))) ⌝ }
+    ensures { λ r. ⌜ (now r ≡ viewOf (now (file .entry)) (answerOf (now (table .entry)) (now (file .entry)) (Question.ViewPlanned row plan) (length (now (room .entry))))) × (ptr r ≡ (ptr (file .entry) .0, ptr (file .entry) .1 + answerOf (now (table .entry)) (now (file .entry)) (Question.ViewPlanned row plan) (length (now (room .entry))) .first / 8)) × (now (room .exit) ≡ roomAfter (now (table .entry)) (now (file .entry)) (Question.ViewPlanned row plan) (length (now (room .entry)))) ⌝ }
 {
-    let a = lookup_ask::ask(table, file, Question::ViewPlanned(row, plan), room);
-    answer_types::part_of(file, a)
+    let a = crate::ask::ask(table, file, Question::ViewPlanned(row, plan), room);
+    lookup_question::types::part_of(file, a)
 }
 
 // Why that view is refused; 0 where it is not.
@@ -92,6 +97,6 @@ pub fn view_planned_refusal(
 ) -> usize
     ensures { λ r. ⌜ (r ≡ answerOf (now (table .entry)) (now (file .entry)) (Question.ViewPlanned row plan) (length (now (room .entry))) .refused) × (now (room .exit) ≡ roomAfter (now (table .entry)) (now (file .entry)) (Question.ViewPlanned row plan) (length (now (room .entry)))) ⌝ }
 {
-    let a = lookup_ask::ask(table, file, Question::ViewPlanned(row, plan), room);
+    let a = crate::ask::ask(table, file, Question::ViewPlanned(row, plan), room);
     a.refused
 }

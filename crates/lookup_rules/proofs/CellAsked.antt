@@ -4,7 +4,7 @@ use mathlib.Core.Path.{_≡_, refl}
 use mathlib.Core.Bool.{cond}
 use Prim.Native.Nat.{ℕ, _<_}
 use lib.Dec.{T, ltb→lt}
-use Rattle.cell_map.specs.Map.{Bits}
+use Rattle.standard_rules.specs.Place.{Bits}
 use Rattle.lookup_rules.specs.declared.Question.{Question}
 use Rattle.lookup_rules.specs.declared.Question.the-variants.{Check, Prepare, Place, PlacePlanned, View, ViewPlanned}
 use Rattle.lookup_rules.specs.Questions.{rowOf, positionOf, asksCell, sequenceOf, isColumn, isBelow, bitsFor}

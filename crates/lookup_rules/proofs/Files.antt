@@ -8,9 +8,9 @@ use native.Mathlib.Decide.{ℕ-discrete}
 use borrow.Author.Tests.{eq-eqb, ne-eqb}
 use Rattle.bytes_at.specs.Steps.{_>>=_}
 use Rattle.bytes_at.proofs.Stages.{then-left}
-use Rattle.table.specs.declared.Description.{Description}
-use Rattle.standard_rules.specs.Rules.{refusalOf, checkedAs}
-use Rattle.incremental_rules.specs.Rules.{refusalOf as incrementalRefusal, checkedAs as incrementalAs}
+use Rattle.table_rules.specs.declared.Description.{Description}
+use Rattle.standard_rules.specs.Check.{refusalOf, checkedAs}
+use Rattle.incremental_rules.specs.Check.{refusalOf as incrementalRefusal, checkedAs as incrementalAs}
 use Rattle.lookup_rules.specs.declared.Target.{Target}
 use Rattle.lookup_rules.specs.declared.FileChecked.{FileChecked}
 use Rattle.lookup_rules.specs.Questions.{ofStandard, ofIncremental, fileOf, planFor}

@@ -8,7 +8,7 @@ use lib.Dec.{ltb, eqb}
 use Rattle.bytes_at.specs.Steps.{_>>=_}
 use Rattle.bytes_at.specs.Stages.{_▷_, orNo}
 use Rattle.bytes_at.proofs.Stages.{regroup}
-use Rattle.table.specs.Table.{describedAs}
+use Rattle.table_rules.specs.Table.{describedAs}
 use Rattle.lookup_rules.specs.declared.FileChecked.{FileChecked}
 use Rattle.lookup_rules.specs.declared.Target.{Target}
 use Rattle.lookup_rules.specs.declared.Plan.{Plan}

@@ -6,21 +6,21 @@ use mathlib.Core.Bool.{true}
 use Prim.Native.Nat.{ℕ}
 use lib.Dec.{T}
 use borrow.Author.Tests.{eq-eqb}
-use Rattle.data_managers.specs.declared.Kind.{Kind}
-use Rattle.data_managers.specs.declared.Kind.the-variants.{Incremental}
-use Rattle.table.specs.declared.Description.{Description}
-use Rattle.table.specs.Table.{describedAs}
-use Rattle.cell_map.proofs.Tests.{is-true}
-use Rattle.incremental_rules.specs.Rules.{refusalOf}
-use Rattle.incremental_rules.specs.Places.{placeOf, Kept}
+use Rattle.table_rules.specs.declared.Kind.{Kind}
+use Rattle.table_rules.specs.declared.Kind.the-variants.{Incremental}
+use Rattle.table_rules.specs.declared.Description.{Description}
+use Rattle.table_rules.specs.Table.{describedAs, bindingIn}
+use Rattle.bytes_at.proofs.Tests.{is-true}
+use Rattle.incremental_rules.specs.Check.{refusalOf}
+use Rattle.incremental_rules.specs.Place.{placeOf, Kept}
 use Rattle.incremental_rules.proofs.Places.{every-place}
 use Rattle.lookup_rules.specs.declared.Question.{Question}
 use Rattle.lookup_rules.specs.declared.Question.the-variants.{Check, Prepare, Place, PlacePlanned, View, ViewPlanned}
-use Rattle.lookup_rules.specs.Questions.{rowOf, positionOf, asksCell, kindWith, isIncremental, isPlaced, bindingAt, placeIn, answerOf}
+use Rattle.lookup_rules.specs.Questions.{rowOf, positionOf, asksCell, kindWith, isIncremental, isPlaced, placeIn, answerOf}
 use Rattle.lookup_rules.specs.declared.Asked.the-variants.{Position, Planned}
-use Rattle.lookup_rules.specs.Demand.{bitsOf, inIncremental, SafeThere, PlacesThere}
+use Rattle.lookup_rules.specs.Demand.{answerBits, inIncremental, SafeThere, PlacesThere}
 use Rattle.lookup_rules.proofs.CellAsked.{cell-sequence, cell-column, cell-row, bits-for}
-use Rattle.lookup_rules.proofs.Described.{described}
+use Rattle.table_rules.proofs.Described.{described}
 use Rattle.lookup_rules.proofs.Files.{incremental-refused}
 use Rattle.lookup_rules.proofs.Stages.{targetFor, target-sequence, target-kind, target-held, passed}
 
@@ -38,7 +38,7 @@ unfolding placeIn
 place-there d sequence f row c = refl
 
 module _ (t f : List ℕ) (sequence l : ℕ) (q : Question) (w : T (asksCell q)) (k : inIncremental t sequence)
-    (e : bindingAt (describedAs t) (positionOf q) .sequence ≡ sequence) (h : answerOf t f q l .refused ≡ 0) where
+    (e : bindingIn (describedAs t) (positionOf q) .sequence ≡ sequence) (h : answerOf t f q l .refused ≡ 0) where
   abbrev d : Description
   d = describedAs t
 
@@ -61,12 +61,12 @@ module _ (t f : List ℕ) (sequence l : ℕ) (q : Question) (w : T (asksCell q))
     no-string = no-string q _ w (rw held-kind at (target-held d q (passed t f q l h .held)));
   }
 
-  pub same : bitsOf (answerOf t f q l) ≡ placeOf d (targetFor t f q l .sequence) f (positionOf q) (rowOf q)
+  pub same : answerBits (answerOf t f q l) ≡ placeOf d (targetFor t f q l .sequence) f (positionOf q) (rowOf q)
   same =
-      ap bitsOf (passed t f q l h .same) ∙ bits-for q _
+      ap answerBits (passed t f q l h .same) ∙ bits-for q _
       ∙ rw (is-true (asksCell q) w, kind) (place-there d (targetFor t f q l .sequence) f (rowOf q) (positionOf q))
 
-  pub safe : SafeThere t f (bitsOf (answerOf t f q l)) (rowOf q)
+  pub safe : SafeThere t f (answerBits (answerOf t f q l)) (rowOf q)
   safe =
       rw same
       (every-place d (targetFor t f q l .sequence) f (targetFor t f q l .refused) (described t .columns-most) accepted (positionOf q) (rowOf q) kept

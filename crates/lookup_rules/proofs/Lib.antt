@@ -1,10 +1,7 @@
 -- Laws of the questions, demand 3, and stale plans.
-pub mod Columns
 pub mod CellAsked
 pub mod Files
 pub mod Stages
-pub mod WholeBytes
-pub mod Described
 pub mod Places
 pub mod IncrementalPlaces
 pub mod Low

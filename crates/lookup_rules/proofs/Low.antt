@@ -12,42 +12,36 @@ use borrow.Author.Tests.{eq-eqb, ne-eqb}
 use Rattle.bytes_at.specs.declared.Width.{Width}
 use Rattle.bytes_at.specs.declared.Width.the-variants.{Four}
 use Rattle.bytes_at.specs.Bytes.{bytes}
-use Rattle.bytes_at.specs.Loop.{after}
-use Rattle.bytes_at.specs.Steps.{_>>=_}
+use Rattle.bytes_at.specs.Steps.{after, _>>=_}
 use Rattle.bytes_at.specs.Stages.{_▷_}
-use Rattle.aipsio.specs.declared.Cursor.{Cursor}
-use Rattle.aipsio.specs.declared.Value.{Value}
-use Rattle.aipsio.specs.Field.{latched, refusedAt, leftIn, skipped, skippedEach, judged, settled, sizedAt, uintAt, rangedAt, flagAt, agreed, markAt, textAt, stringAt, nameAt}
-use Rattle.aipsio_objects.specs.Object.{entered, opened, closed, passed, recordAt, blockAt, mapAt, ipositionAt, axisInto, axesAt, shapeAt}
-use Rattle.aipsio.proofs.Kept.{text-next}
-use Rattle.column_desc.specs.declared.Head.{Head}
-use Rattle.column_desc.specs.declared.Columns.{Columns}
-use Rattle.column_desc.specs.ColumnDesc.{typeAt, headAt, columnAt, columnInto, columnsAt}
-use Rattle.column_layout.specs.ColumnLayout.{notesAt, optionsAt, dimensionsAt, elementsAt, layoutAt, defaultAt, tailAt}
-use Rattle.data_managers.specs.declared.Managers.{Managers}
-use Rattle.column_info.specs.declared.Owners.{Owners}
-use Rattle.column_set.specs.declared.Infos.{Infos}
-use Rattle.data_managers.specs.DataManagers.{headAt as setHeadAt, managerInto, managersAt}
-use Rattle.column_set.specs.ColumnSet.{infoInto, infosAt}
-use Rattle.column_info.specs.ColumnInfo.{sequenceAt, ownShapeAt, ownerInto, ownersAt}
-use Rattle.table.specs.Table.{wholeOf, headAt as tableHeadAt, descHeadAt, refusedWith, describedAs}
-use Rattle.standard_header.specs.declared.BucketFields.{BucketFields}
-use Rattle.standard_header.specs.declared.IndexFields.{IndexFields}
-use Rattle.standard_text.specs.declared.Sets.{Sets}
-use Rattle.manager_file.specs.Start.{headerRoom}
-use Rattle.standard_header.specs.Header.{bucketFieldsAt, indexFieldsAt, headed, headerIn, headerAt}
-use Rattle.standard_text.specs.Index.{setAt, setInto, setsAt, indexed, indexIn, indexAt}
-use Rattle.incremental_header.specs.declared.HeaderFields.{HeaderFields}
-use Rattle.incremental_text.specs.declared.Index.{Index}
-use Rattle.incremental_header.specs.Header.{fieldsAt, headed as incrementalHeaded, headerIn as incrementalHeaderIn, headerAt as incrementalHeader}
-use Rattle.incremental_text.specs.Index.{indexed as incrementalIndexed, indexIn as incrementalIndexIn, indexAt as incrementalIndex}
-use Rattle.incremental_values.specs.declared.Starts.{Starts}
-use Rattle.incremental_values.specs.Values.{startInto, startsAt, offsetInto, offsetsAt}
-use Rattle.incremental_bucket.specs.Bucket.{dataAt, columnAt as partColumnAt, columnInto as partColumnInto, columnsAt as partColumnsAt, orderOf, bucketAt}
-use Rattle.incremental_bucket.proofs.Accepted.{started-next}
+use Rattle.aipsio_rules.specs.declared.Cursor.{Cursor}
+use Rattle.aipsio_rules.specs.declared.Value.{Value}
+use Rattle.aipsio_rules.specs.Field.{latched, refusedAt, leftIn, skipped, skippedEach, judged, settled, sizedAt, uintAt, rangedAt, flagAt, agreed, markAt, textAt, stringAt, nameAt}
+use Rattle.aipsio_rules.specs.Object.{entered, opened, closed, passed, recordAt, blockAt, mapAt, ipositionAt, axisInto, axesAt, shapeAt}
+use Rattle.aipsio_rules.proofs.Kept.{text-next}
+use Rattle.table_rules.specs.declared.ColumnHead.{ColumnHead}
+use Rattle.table_rules.specs.declared.Columns.{Columns}
+use Rattle.table_rules.specs.ColumnDesc.{columnTypeAt, columnHeadAt, columnRestAt, columnInto, columnsAt, notesAt, optionsAt, dimensionsAt, elementsAt, layoutAt, defaultAt, tailAt}
+use Rattle.table_rules.specs.declared.Managers.{Managers}
+use Rattle.table_rules.specs.declared.Owners.{Owners}
+use Rattle.table_rules.specs.declared.Infos.{Infos}
+use Rattle.table_rules.specs.ColumnSet.{columnSetHeadAt, managerInto, managersAt, infoInto, infosAt, sequenceAt, ownShapeAt, ownerInto, ownersAt}
+use Rattle.table_rules.specs.Table.{wholeOf, tableHeadAt, tableDescHeadAt, refusedTable, describedAs}
+use Rattle.standard_rules.specs.declared.BucketFields.{BucketFields}
+use Rattle.standard_rules.specs.declared.IndexFields.{IndexFields}
+use Rattle.standard_rules.specs.declared.Sets.{Sets}
+use Rattle.standard_rules.specs.Header.{headerRoom, bucketFieldsAt, indexFieldsAt, headed, headerIn, headerAt}
+use Rattle.standard_rules.specs.Index.{ssmIndexAt, setInto, setsAt, indexed, indexIn, indexAt}
+use Rattle.incremental_rules.specs.declared.HeaderFields.{HeaderFields}
+use Rattle.incremental_rules.specs.declared.Index.{Index}
+use Rattle.incremental_rules.specs.Header.{fieldsAt, headed as incrementalHeaded, headerIn as incrementalHeaderIn, headerAt as incrementalHeader}
+use Rattle.incremental_rules.specs.Index.{indexed as incrementalIndexed, indexIn as incrementalIndexIn, indexAt as incrementalIndex}
+use Rattle.incremental_rules.specs.declared.Starts.{Starts}
+use Rattle.incremental_rules.specs.Bucket.{startInto, startsAt, offsetInto, offsetsAt, dataAt, columnPartAt, columnPartInto, columnPartsAt, orderOf, bucketAt}
+use Rattle.incremental_rules.proofs.Accepted.{started-next}
 use Rattle.incremental_rules.proofs.AnyCell.{found-refused}
 use Rattle.incremental_rules.specs.declared.Cells.{Cells}
-use Rattle.incremental_rules.specs.Rules.{bucketInto, nothing}
+use Rattle.incremental_rules.specs.Check.{bucketInto, nothing}
 
 -- d, read on from c, has no refusal above 11 of its own
 record Low (c d : Cursor) : Type 0 where
@@ -200,13 +194,13 @@ shape-low s c dimensions =
     (opened-low s c _ 1 2 ⨟ number-in-low s _ 1 8 4 ⨟ judged-low _ _ _ 5 (omega arith) ⨟ axes-low s _ _ _ ⨟ closed-low _ c)
 
 -- ---- a column
-type-low : (s : List ℕ) (c : Cursor) → Low c (typeAt s c .next)
-unfolding typeAt _>>=_
+type-low : (s : List ℕ) (c : Cursor) → Low c (columnTypeAt s c .next)
+unfolding columnTypeAt _>>=_
 type-low s c = string-low s c 0 4096 ⨟ judged-low _ _ _ 5 (omega arith)
 
 module _ (s : List ℕ) (c : Cursor) where
-  head-low : Low c (headAt s c .next)
-  unfolding headAt _>>=_
+  head-low : Low c (columnHeadAt s c .next)
+  unfolding columnHeadAt _>>=_
   head-low = version-low s c 1 1 ⨟ type-low s _ ⨟ version-low s _ 1 1 ⨟ string-low s _ 1 64
 
   notes-low : Low c (notesAt s c)
@@ -246,8 +240,8 @@ unfolding tailAt _>>=_
 tail-low s c array bits =
     settled-low _ (number-in-low s c 0 65536 4 ⨟ record-low s _ ⨟ version-low s _ 1 1 ⨟ default-low s _ array bits)
 
-column-low : (s : List ℕ) (head : Head) (c : Cursor) → Low c (columnAt s head c .next)
-unfolding columnAt _>>=_
+column-low : (s : List ℕ) (head : ColumnHead) (c : Cursor) → Low c (columnRestAt s head c .next)
+unfolding columnRestAt _>>=_
 column-low s head c = notes-low s c ⨟ layout-low s _ _ _ ⨟ tail-low s _ _ _
 
 columns-low : (s : List ℕ) (c : Cursor) (n : ℕ) → Low c (columnsAt s c n .next)
@@ -257,8 +251,8 @@ columns-low s c n =
 
 -- ---- the ColumnSet
 module _ (s : List ℕ) (c : Cursor) where
-  set-head-low : (rows : ℕ) → Low c (setHeadAt s c rows .next)
-  unfolding setHeadAt _>>=_
+  set-head-low : (rows : ℕ) → Low c (columnSetHeadAt s c rows .next)
+  unfolding columnSetHeadAt _>>=_
   set-head-low rows =
       version-low s c 4294967294 4294967294 ⨟ number-in-low s _ 0 2147483647 4 ⨟ judged-low _ _ _ 6 (omega arith) ⨟ uint-low s _
       ⨟ number-in-low s _ 1 16 4
@@ -293,20 +287,20 @@ module _ (s : List ℕ) (c : Cursor) where
   unfolding tableHeadAt _>>=_
   table-head-low = number-in-low s c 0 2147483647 4 ⨟ code-low s _ 0 1 4 ⨟ name-low s _ _
 
-  desc-head-low : Low c (descHeadAt s c .next)
-  unfolding descHeadAt _>>=_
+  desc-head-low : Low c (tableDescHeadAt s c .next)
+  unfolding tableDescHeadAt _>>=_
   desc-head-low =
       string-low s c 0 4096 ⨟ string-low s _ 0 4096 ⨟ string-low s _ 0 4096 ⨟ record-low s _ ⨟ record-low s _ ⨟ number-in-low s _ 1 64 4
 
 pub described-low : (s : List ℕ) → describedAs s .refused ≤ 11
-unfolding describedAs refusedWith _>>=_
+unfolding describedAs refusedTable _>>=_
 described-low s =
     let whole = judged-low (record { at = 0; end = length s; big = 1; refused = 0 }) 65536 (leb (length s) 65536) 4 (omega arith) in
     let m = markAt s (wholeOf s) in
     let head = tableHeadAt s (opened s m (bytes "Table") 2 2 .next) in
-    let n = descHeadAt s (opened s (head .next) (bytes "TableDesc") 2 2 .next) in
+    let n = tableDescHeadAt s (opened s (head .next) (bytes "TableDesc") 2 2 .next) in
     let cs = columnsAt s (n .next) (n .count) in
-    let set = setHeadAt s (closed (cs .next) (head .next)) (head .rows) in
+    let set = columnSetHeadAt s (closed (cs .next) (head .next)) (head .rows) in
     let ms = managersAt s (set .next) (set .count) (set .highest) in
     let os = ownersAt s (ms .next) (cs .arrays) (n .count) (ms .numbers) (set .count) in
     let is = infosAt s (os .next) (ms .ours) (os .counts) (set .count) in
@@ -346,8 +340,8 @@ header-low s big =
     rw headed-is (last .low zero-le)
 
 -- ---- the index text
-set-low : (s : List ℕ) (c : Cursor) (width : Width) → Low c (setAt s c width .next)
-unfolding setAt _>>=_
+set-low : (s : List ℕ) (c : Cursor) (width : Width) → Low c (ssmIndexAt s c width .next)
+unfolding ssmIndexAt _>>=_
 set-low s c width =
     mark-low s c ⨟ opened-low s _ _ 1 1 ⨟ uint-low s _ ⨟ number-in-low s _ 1 8388608 4 ⨟ uint-low s _ ⨟ map-low s _ ⨟ block-low s _ _ _
     ⨟ block-low s _ _ 4 ⨟ closed-low _ _
@@ -424,12 +418,12 @@ module _ (s : List ℕ) (c : Cursor) where
       after-low _ (λ (st : Value). st .next) (λ st i. settled-low _ (uint-low s (st .next) ⨟ judged-low _ _ _ 11 (omega arith))) _ n
 
 module _ (s : List ℕ) where
-  part-low : (c : Cursor) (limit rows row bytes : ℕ) → Low c (partColumnAt s c limit rows row bytes .next)
-  unfolding partColumnAt _>>=_
+  part-low : (c : Cursor) (limit rows row bytes : ℕ) → Low c (columnPartAt s c limit rows row bytes .next)
+  unfolding columnPartAt _>>=_
   part-low c limit rows row bytes = uint-low s c ⨟ judged-low _ _ _ 11 (omega arith) ⨟ starts-low s _ _ _ _ ⨟ offsets-low s _ _ _ _ _
 
-  parts-low : (c : Cursor) (limit rows row column : ℕ) (bytes : List ℕ) (n : ℕ) → Low c (partColumnsAt s c limit rows row column bytes n .next)
-  unfolding partColumnsAt partColumnInto _>>=_
+  parts-low : (c : Cursor) (limit rows row column : ℕ) (bytes : List ℕ) (n : ℕ) → Low c (columnPartsAt s c limit rows row column bytes n .next)
+  unfolding columnPartsAt columnPartInto _>>=_
   parts-low c limit rows row column bytes n = after-low _ (λ (st : Value). st .next) (λ st k. part-low (st .next) _ _ _ _) _ n
 
 bucket-low : (f : List ℕ) (at size : ℕ) (big : Bool) (rows row column : ℕ) (bytes : List ℕ) (n : ℕ)
@@ -437,7 +431,7 @@ bucket-low : (f : List ℕ) (at size : ℕ) (big : Bool) (rows row column : ℕ)
 unfolding bucketAt _>>=_
 bucket-low f at size big rows row column bytes n =
     let first : Cursor = record { at = at; end = at + size; big = orderOf big; refused = 0 } in
-    let last : Low first (partColumnsAt f (dataAt f first size .next) (dataAt f first size .value) rows row column bytes n .next) =
+    let last : Low first (columnPartsAt f (dataAt f first size .next) (dataAt f first size .value) rows row column bytes n .next) =
     data-low f first size ⨟ parts-low f _ _ _ _ _ _ _ in
     last .low zero-le
 

@@ -6,23 +6,22 @@ use mathlib.Core.Bool.{false}
 use Prim.Native.Nat.{ℕ, _<_}
 use lib.Dec.{T}
 use Rattle.bytes_at.proofs.Stages.{then-left, then-right, or-passed}
-use Rattle.data_managers.specs.declared.Kind.{Kind}
-use Rattle.table.specs.declared.Description.{Description}
-use Rattle.table.specs.Table.{describedAs}
-use Rattle.cell_map.specs.Map.{Bits, placeOf}
-use Rattle.cell_map.specs.Fits.{fits}
-use Rattle.cell_map.specs.Demand.{Kept}
-use Rattle.cell_map.proofs.Places.{every-two}
-use Rattle.cell_map.proofs.Tests.{is-true}
-use Rattle.standard_rules.specs.Rules.{mapOf, refusalOf}
+use Rattle.table_rules.specs.declared.Kind.{Kind}
+use Rattle.table_rules.specs.declared.Description.{Description}
+use Rattle.table_rules.specs.Table.{describedAs, bindingIn}
+use Rattle.standard_rules.specs.Place.{Bits, placeOf}
+use Rattle.standard_rules.specs.Map.{fits, Kept, mapOf}
+use Rattle.standard_rules.proofs.Places.{every-two}
+use Rattle.bytes_at.proofs.Tests.{is-true}
+use Rattle.standard_rules.specs.Check.{refusalOf}
 use Rattle.lookup_rules.specs.declared.Question.{Question}
 use Rattle.lookup_rules.specs.declared.Question.the-variants.{Place, PlacePlanned}
-use Rattle.lookup_rules.specs.Questions.{rowOf, positionOf, asksCell, kindWith, isIncremental, bindingAt, placeIn, answerOf}
+use Rattle.lookup_rules.specs.Questions.{rowOf, positionOf, asksCell, kindWith, isIncremental, placeIn, answerOf}
 use Rattle.lookup_rules.specs.declared.Asked.{Asked}
 use Rattle.lookup_rules.specs.declared.Asked.the-variants.{Position, Planned}
-use Rattle.lookup_rules.specs.Demand.{question, columnOf, bitsOf, carries, inStandard, Places}
+use Rattle.lookup_rules.specs.Demand.{question, columnOf, answerBits, carries, inStandard, Places}
 use Rattle.lookup_rules.proofs.CellAsked.{cell-sequence, cell-column, cell-row, bits-for}
-use Rattle.lookup_rules.proofs.Columns.{column-kept, map-rows}
+use Rattle.standard_rules.proofs.Columns.{column-kept, map-rows}
 use Rattle.lookup_rules.proofs.Files.{standard-refused}
 use Rattle.lookup_rules.proofs.Stages.{targetFor, target-sequence, target-kind, passed}
 
@@ -42,7 +41,7 @@ pub record Placed (t f : List ℕ) (sequence row c : ℕ) (b : Bits) : Type 0 wh
   pub same : b ≡ placeOf (mapOf (describedAs t) sequence f) row c
 
 module _ (t f : List ℕ) (sequence l : ℕ) (q : Question) (w : T (asksCell q)) (k : inStandard t sequence)
-    (e : bindingAt (describedAs t) (positionOf q) .sequence ≡ sequence) (h : answerOf t f q l .refused ≡ 0) where
+    (e : bindingIn (describedAs t) (positionOf q) .sequence ≡ sequence) (h : answerOf t f q l .refused ≡ 0) where
   pub own : targetFor t f q l .sequence ≡ sequence
   own = target-sequence (describedAs t) q ∙ cell-sequence q _ w ∙ e
 
@@ -55,7 +54,7 @@ module _ (t f : List ℕ) (sequence l : ℕ) (q : Question) (w : T (asksCell q))
   pub accepted : refusalOf (describedAs t) (targetFor t f q l .sequence) f (targetFor t f q l .refused) l ≡ 0
   accepted = sym (standard-refused (describedAs t) (targetFor t f q l) f l kind (rowOf q)) ∙ passed t f q l h .checked
 
-  pub shown : Placed t f sequence (rowOf q) (positionOf q) (bitsOf (answerOf t f q l))
+  pub shown : Placed t f sequence (rowOf q) (positionOf q) (answerBits (answerOf t f q l))
   shown =
       let x = passed t f q l h in
       record {
@@ -63,14 +62,14 @@ module _ (t f : List ℕ) (sequence l : ℕ) (q : Question) (w : T (asksCell q))
         kept = column-kept (describedAs t) sequence f (positionOf q) (cell-column q _ w (x .column)) e;
         below = rw map-rows (cell-row q _ w (x .row));
         same =
-            ap bitsOf (x .same) ∙ bits-for q _
+            ap answerBits (x .same) ∙ bits-for q _
             ∙ rw (is-true (asksCell q) w, own, kind) (place-standard (describedAs t) sequence f (rowOf q) (positionOf q));
       }
 
 -- by position and by plan alike
 placed : (t f : List ℕ) (sequence l row : ℕ) (a : Asked) → inStandard t sequence → carries t a sequence
     → answerOf t f (question row a) l .refused ≡ 0
-    → Placed t f sequence row (columnOf a) (bitsOf (answerOf t f (question row a) l))
+    → Placed t f sequence row (columnOf a) (answerBits (answerOf t f (question row a) l))
 placed t f sequence l row (Position c) k e h = shown t f sequence l (Place row c) tt k e h
 placed t f sequence l row (Planned p) k e h = shown t f sequence l (PlacePlanned row p) tt k e h
 

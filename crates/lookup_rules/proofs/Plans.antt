@@ -6,8 +6,8 @@ use Prim.Native.Nat.{ℕ}
 use lib.Dec.{T, eqb→eq}
 use store.Enc.{and-l, and-r}
 use native.Mathlib.Omega.{arith}
-use Rattle.cell_map.proofs.Tests.{is-false}
 use borrow.Author.Tests.{eq-eqb}
+use Rattle.bytes_at.proofs.Tests.{is-false}
 use Rattle.bytes_at.specs.Steps.{_>>=_}
 use Rattle.lookup_rules.specs.declared.Plan.{Plan}
 use Rattle.lookup_rules.specs.Questions.{samePlan}

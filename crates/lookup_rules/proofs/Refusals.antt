@@ -9,9 +9,9 @@ use native.Mathlib.Omega.{arith}
 use Rattle.bytes_at.specs.Steps.{_>>=_}
 use Rattle.bytes_at.specs.Stages.{_▷_, orNo}
 use Rattle.bytes_at.proofs.Stages.{stops, goes}
-use Rattle.table.specs.declared.Description.{Description}
-use Rattle.standard_rules.specs.Rules.{refusalOf}
-use Rattle.incremental_rules.specs.Rules.{searchOf, refusalOf as incrementalRefusal}
+use Rattle.table_rules.specs.declared.Description.{Description}
+use Rattle.standard_rules.specs.Check.{refusalOf}
+use Rattle.incremental_rules.specs.Check.{searchOf, refusalOf as incrementalRefusal}
 use Rattle.lookup_rules.specs.declared.Question.{Question}
 use Rattle.lookup_rules.specs.Questions.{targetOf}
 use Rattle.lookup_rules.proofs.Low.{header-low, index-low, incremental-header-low, incremental-index-low, search-low}

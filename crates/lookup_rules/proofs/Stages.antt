@@ -10,15 +10,15 @@ use lib.Dec.{T}
 use borrow.Author.Tests.{eq-eqb, ne-eqb}
 use Rattle.bytes_at.specs.Steps.{_>>=_}
 use Rattle.bytes_at.proofs.Stages.{then-left, then-right, or-passed}
-use Rattle.column_desc.specs.ColumnDesc.{blank}
-use Rattle.table.specs.declared.Description.{Description}
-use Rattle.table.specs.Table.{describedAs}
-use Rattle.cell_map.specs.Map.{Bits}
+use Rattle.table_rules.specs.ColumnDesc.{noColumn}
+use Rattle.table_rules.specs.declared.Description.{Description}
+use Rattle.table_rules.specs.Table.{describedAs, bindingIn}
+use Rattle.standard_rules.specs.Place.{Bits}
 use Rattle.lookup_rules.specs.declared.Question.{Question}
 use Rattle.lookup_rules.specs.declared.Target.{Target}
 use Rattle.lookup_rules.specs.declared.FileChecked.{FileChecked}
 use Rattle.lookup_rules.specs.declared.Staged.{Staged}
-use Rattle.lookup_rules.specs.Questions.{positionOf, sequenceOf, rowOf, isColumn, kindWith, isIncremental, isPlaced, isHeld, isBelow, isSeen, bindingAt, targetOf, fileOf, planFor, stagesOf, placeIn, bitsFor, answered, answerOf, roomAfter}
+use Rattle.lookup_rules.specs.Questions.{positionOf, sequenceOf, rowOf, isColumn, kindWith, isIncremental, isPlaced, isHeld, isBelow, isSeen, targetOf, fileOf, planFor, stagesOf, placeIn, bitsFor, answered, answerOf, roomAfter}
 use Rattle.lookup_rules.proofs.Files.{target-passed}
 
 -- ---- the answer
@@ -42,11 +42,11 @@ module _ (d : Description) (q : Question) where
   target-column h = or-passed _ 7 (then-right (d .refused) _ (then-left _ _ h))
 
   pub target-held : targetOf d q .refused ≡ 0
-      → T (isHeld (kindWith (d .managers) (d .«manager_count») (targetOf d q .sequence)) (isPlaced q (getD (d .columns) (positionOf q) blank .datatype .number)))
+      → T (isHeld (kindWith (d .managers) (d .«manager_count») (targetOf d q .sequence)) (isPlaced q (getD (d .columns) (positionOf q) noColumn .datatype .number)))
   unfolding targetOf _>>=_
   target-held h = or-passed _ 7 (then-right _ _ h)
 
-  pub target-sequence : targetOf d q .sequence ≡ sequenceOf q (bindingAt d (positionOf q) .sequence)
+  pub target-sequence : targetOf d q .sequence ≡ sequenceOf q (bindingIn d (positionOf q) .sequence)
   unfolding targetOf _>>=_
   target-sequence = refl
 
@@ -54,11 +54,11 @@ module _ (d : Description) (q : Question) where
   unfolding targetOf _>>=_
   target-position = refl
 
-  pub target-binding : targetOf d q .binding ≡ bindingAt d (positionOf q)
+  pub target-binding : targetOf d q .binding ≡ bindingIn d (positionOf q)
   unfolding targetOf _>>=_
   target-binding = refl
 
-  pub target-described : targetOf d q .column ≡ getD (d .columns) (positionOf q) blank
+  pub target-described : targetOf d q .column ≡ getD (d .columns) (positionOf q) noColumn
   unfolding targetOf _>>=_
   target-described = refl
 

@@ -11,32 +11,32 @@ use lib.ListN.{length, getD}
 use borrow.Author.Tests.{eq-eqb}
 use Rattle.bytes_at.specs.Steps.{_>>=_}
 use Rattle.bytes_at.proofs.Stages.{then-left, then-right, or-passed}
-use Rattle.column_desc.specs.declared.Column.{Column}
-use Rattle.column_desc.specs.ColumnDesc.{blank}
-use Rattle.data_managers.specs.declared.Kind.{Kind}
-use Rattle.data_managers.specs.declared.Kind.the-variants.{Other, Standard, Incremental}
-use Rattle.table.specs.declared.Description.{Description}
-use Rattle.table.specs.Table.{describedAs}
-use Rattle.cell_map.specs.Map.{Map, Bits, columnAt, placeOf, bucketIn, bucketStart, localRow}
-use Rattle.cell_map.proofs.Places.{every-two}
-use Rattle.manager_file.specs.Start.{longEnough}
-use Rattle.standard_header.specs.Header.{headerAt}
-use Rattle.standard_rules.specs.Rules.{mapOf, refusalOf}
-use Rattle.incremental_header.specs.Header.{headerAt as incrementalHeader}
-use Rattle.incremental_rules.specs.Rules.{refusalOf as incrementalRefusal}
-use Rattle.incremental_rules.specs.Places.{placeOf as incrementalPlace, bitOf}
+use Rattle.table_rules.specs.declared.Column.{Column}
+use Rattle.table_rules.specs.ColumnDesc.{noColumn}
+use Rattle.table_rules.specs.declared.Kind.{Kind}
+use Rattle.table_rules.specs.declared.Kind.the-variants.{Other, Standard, Incremental}
+use Rattle.table_rules.specs.declared.Description.{Description}
+use Rattle.table_rules.specs.Table.{describedAs, bindingIn}
+use Rattle.standard_rules.specs.Map.{Map, columnAt, mapOf}
+use Rattle.standard_rules.specs.Header.{bucketStart, headerAt}
+use Rattle.standard_rules.specs.Place.{Bits, placeOf, bucketIn, localRow}
+use Rattle.standard_rules.proofs.Places.{every-two}
+use Rattle.standard_rules.specs.Check.{longEnough, refusalOf}
+use Rattle.incremental_rules.specs.Header.{headerAt as incrementalHeader}
+use Rattle.incremental_rules.specs.Check.{refusalOf as incrementalRefusal}
+use Rattle.incremental_rules.specs.Place.{placeOf as incrementalPlace, bitOf}
 use Rattle.lookup_rules.specs.declared.Plan.{Plan}
 use Rattle.lookup_rules.specs.declared.Question.{Question}
 use Rattle.lookup_rules.specs.declared.Asked.{Asked}
 use Rattle.lookup_rules.specs.declared.Asked.the-variants.{Position, Planned}
 use Rattle.lookup_rules.specs.declared.Answer.{Answer}
-use Rattle.lookup_rules.specs.Questions.{rowOf, positionOf, asksCell, kindWith, isSeen, bindingAt, planFor, stagesOf, answerOf}
-use Rattle.lookup_rules.specs.Demand.{bitsOf}
+use Rattle.lookup_rules.specs.Questions.{rowOf, positionOf, asksCell, kindWith, isSeen, planFor, stagesOf, answerOf}
+use Rattle.lookup_rules.specs.Demand.{answerBits}
 use Rattle.lookup_rules.specs.Views.{viewed, HoldsCell, EveryView}
 use Rattle.lookup_rules.proofs.CellAsked.{cell-sequence, cell-column}
-use Rattle.lookup_rules.proofs.WholeBytes.{Even8, eight, times-even}
-use Rattle.lookup_rules.proofs.Described.{described}
-use Rattle.lookup_rules.proofs.Columns.{column-same}
+use Rattle.table_rules.proofs.WholeBytes.{Even8, eight, times-even}
+use Rattle.table_rules.proofs.Described.{described}
+use Rattle.standard_rules.proofs.Columns.{column-same}
 use Rattle.lookup_rules.proofs.Stages.{answer-refused, targetFor, target-sequence, target-described, target-held, stages-plan, seen-passed, passed}
 use Rattle.lookup_rules.proofs.Places as standard
 use Rattle.lookup_rules.proofs.IncrementalPlaces as incremental
@@ -47,7 +47,7 @@ record Holds (f : List ℕ) (b : Bits) : Type 0 where
   bytes : Even8 (b .count)
   there : b .first + b .count ≤ 8 * length f
 
-holds : (f : List ℕ) (a : Answer) → Holds f (bitsOf a) → HoldsCell f a
+holds : (f : List ℕ) (a : Answer) → Holds f (answerBits a) → HoldsCell f a
 holds f a h = record { starts = h .starts; bytes = h .bytes; there = omega (arith, h .starts, h .bytes, h .there) }
 
 -- bucket b lies before the end of the last one
@@ -83,12 +83,12 @@ module _ (t f : List ℕ) (l : ℕ) (q : Question) (w : T (asksCell q)) (h : ans
   c = positionOf q
 
   abbrev sequence : ℕ
-  sequence = bindingAt d c .sequence
+  sequence = bindingIn d c .sequence
 
   known : c < d .«column_count»
   known = cell-column q (d .«column_count») w (passed t f q l h .column)
 
-  module _ (k : kindWith (d .managers) (d .«manager_count») sequence ≡ Standard) (s : getD (d .columns) c blank .datatype .number ≡ 0 → ⊥) where
+  module _ (k : kindWith (d .managers) (d .«manager_count») sequence ≡ Standard) (s : getD (d .columns) c noColumn .datatype .number ≡ 0 → ⊥) where
     abbrev m : Map
     m = mapOf d sequence f
 
@@ -103,12 +103,12 @@ module _ (t f : List ℕ) (l : ℕ) (q : Question) (w : T (asksCell q)) (h : ans
         let x = standard.shown t f sequence l q w k refl h in
         let e = every-two m (x .fit) (rowOf q) c (rowOf q) c (x .below) (x .kept) (x .below) (x .kept) .one in
         record {
-          starts = even-first (bucketStart m (bucketIn m (rowOf q) c) + columnAt m c .offset) (localRow m (rowOf q) c) (columnAt m c .bits) bits-even;
+          starts = even-first (bucketStart (m .size) (bucketIn m (rowOf q) c) + columnAt m c .offset) (localRow m (rowOf q) c) (columnAt m c .bits) bits-even;
           bytes = bits-even;
           there = omega (arith, e .inside .1, bucket-end (m .size) (e .in-range), long);
         }
 
-    standard-holds : Holds f (bitsOf (answerOf t f q l))
+    standard-holds : Holds f (answerBits (answerOf t f q l))
     standard-holds = rw (standard.shown t f sequence l q w k refl h .same) standard-place
 
   module _ (k : kindWith (d .managers) (d .«manager_count») sequence ≡ Incremental) where
@@ -123,7 +123,7 @@ module _ (t f : List ℕ) (l : ℕ) (q : Question) (w : T (asksCell q)) (h : ans
     unfolding incrementalPlace
     incremental-bytes n = eight _ _ refl
 
-    incremental-holds : Holds f (bitsOf (answerOf t f q l))
+    incremental-holds : Holds f (answerBits (answerOf t f q l))
     incremental-holds =
         let x = incremental.safe t f sequence l q w k refl h in
         let e = incremental.same t f sequence l q w k refl h in
@@ -142,22 +142,22 @@ module _ (t f : List ℕ) (l row : ℕ) (a : Asked) (h : answerOf t f (viewed ro
   abbrev q : Question
   q = viewed row a
 
-  own : targetFor t f q l .sequence ≡ bindingAt (describedAs t) (positionOf q) .sequence
+  own : targetFor t f q l .sequence ≡ bindingIn (describedAs t) (positionOf q) .sequence
   own = target-sequence (describedAs t) q ∙ cell-sequence q _ (wanted a)
 
   no-bool : (x : Asked) (n : ℕ) → T (isSeen (viewed row x) false n) → n ≡ 0 → ⊥
   no-bool (Position c) n s e = rw (eq-eqb n 0 e) at s
   no-bool (Planned p) n s e = rw (eq-eqb n 0 e) at s
 
-  datatype-is : stagesOf t f q l .plan .datatype ≡ getD (describedAs t .columns) (positionOf q) blank .datatype .number
+  datatype-is : stagesOf t f q l .plan .datatype ≡ getD (describedAs t .columns) (positionOf q) noColumn .datatype .number
   unfolding planFor _>>=_
   datatype-is = ap (λ (p : Plan). p .datatype) (stages-plan t f q l) ∙ ap (λ (c : Column). c .datatype .number) (target-described (describedAs t) q)
 
-  shown-bool : targetFor t f q l .incremental ≡ false → getD (describedAs t .columns) (positionOf q) blank .datatype .number ≡ 0 → ⊥
+  shown-bool : targetFor t f q l .incremental ≡ false → getD (describedAs t .columns) (positionOf q) noColumn .datatype .number ≡ 0 → ⊥
   shown-bool k = no-bool a _ (rw (k, datatype-is) at (seen-passed t f q l (sym (answer-refused t f q l) ∙ h)))
 
-  by-kind : (k : Kind) → kindWith (describedAs t .managers) (describedAs t .«manager_count») (bindingAt (describedAs t) (positionOf q) .sequence) ≡ k
-      → Holds f (bitsOf (answerOf t f q l))
+  by-kind : (k : Kind) → kindWith (describedAs t .managers) (describedAs t .«manager_count») (bindingIn (describedAs t) (positionOf q) .sequence) ≡ k
+      → Holds f (answerBits (answerOf t f q l))
   by-kind Other e = absurd (rw (own, e) at (target-held (describedAs t) q (passed t f q l h .held)))
   by-kind Standard e = standard-holds t f l q (wanted a) h e (shown-bool (standard.kind t f _ l q (wanted a) e refl h))
   by-kind Incremental e = incremental-holds t f l q (wanted a) h e

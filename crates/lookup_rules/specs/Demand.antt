@@ -2,20 +2,20 @@
 use Prim.Native.Nat.{ℕ}
 use mathlib.Core.Path.{_≡_}
 use mathlib.Core.List.{List}
-use Rattle.data_managers.specs.declared.Kind.the-variants.{Standard, Incremental}
-use Rattle.table.specs.Table.{describedAs}
-use Rattle.cell_map.specs.Map.{Bits}
-use Rattle.cell_map.specs.Demand.{Demand3}
-use Rattle.standard_rules.specs.Rules.{mapOf}
-use Rattle.incremental_header.specs.Header.{headerAt as incrementalHeader}
-use Rattle.incremental_rules.specs.Rules.{indexOf}
-use Rattle.incremental_rules.specs.Places.{Safe}
 use Rattle.lookup_rules.specs.declared.Asked.{Asked}
 use Rattle.lookup_rules.specs.declared.Asked.the-variants.{Position, Planned}
 use Rattle.lookup_rules.specs.declared.Question.{Question}
 use Rattle.lookup_rules.specs.declared.Question.the-variants.{Place, PlacePlanned}
+use Rattle.standard_rules.specs.Place.{Bits}
 use Rattle.lookup_rules.specs.declared.Answer.{Answer}
-use Rattle.lookup_rules.specs.Questions.{bindingAt, kindWith, answerOf}
+use Rattle.table_rules.specs.Table.{describedAs, bindingIn}
+use Rattle.table_rules.specs.declared.Kind.the-variants.{Standard, Incremental}
+use Rattle.lookup_rules.specs.Questions.{kindWith, answerOf}
+use Rattle.standard_rules.specs.Demand.{Demand3}
+use Rattle.standard_rules.specs.Map.{mapOf}
+use Rattle.incremental_rules.specs.Header.{headerAt}
+use Rattle.incremental_rules.specs.Index.{indexOf}
+use Rattle.incremental_rules.specs.Place.{Safe}
 
 abbrev pub question : ℕ → Asked → Question
 question row (Position c) = Place row c
@@ -26,12 +26,12 @@ abbrev pub columnOf : Asked → ℕ
 columnOf (Position c) = c
 columnOf (Planned p) = p .position
 
-abbrev pub bitsOf : Answer → Bits
-bitsOf a = record { first = a .first; count = a .count }
+abbrev pub answerBits : Answer → Bits
+answerBits a = record { first = a .first; count = a .count }
 
 -- "Both columns carry the sequence number the file was accepted for"
 abbrev pub carries : List ℕ → Asked → ℕ → Type 0
-carries t a sequence = bindingAt (describedAs t) (columnOf a) .sequence ≡ sequence
+carries t a sequence = bindingIn (describedAs t) (columnOf a) .sequence ≡ sequence
 
 -- "Place in StandardStMan": the manager with the sequence number is one
 abbrev pub inStandard : List ℕ → ℕ → Type 0
@@ -48,8 +48,8 @@ Places =
     → answerOf t f (question row a) l .refused ≡ 0
     → answerOf t f (question row′ a′) l′ .refused ≡ 0
     → Demand3 (mapOf (describedAs t) sequence f)
-    (bitsOf (answerOf t f (question row a) l))
-    (bitsOf (answerOf t f (question row′ a′) l′))
+    (answerBits (answerOf t f (question row a) l))
+    (answerBits (answerOf t f (question row′ a′) l′))
     row
     (columnOf a)
     row′
@@ -63,7 +63,7 @@ inIncremental t sequence = kindWith (describedAs t .managers) (describedAs t .«
 -- the index gives to its row, off the header, off every free bucket and off the ISMIndex.
 abbrev pub SafeThere : List ℕ → List ℕ → Bits → ℕ → Type 0
 SafeThere t f place row =
-    let h = incrementalHeader f (describedAs t .big) in
+    let h = headerAt f (describedAs t .big) in
     Safe (describedAs t .big) f h (indexOf f h) place row
 
 abbrev pub PlacesThere : Type 0
@@ -72,4 +72,4 @@ PlacesThere =
     → inIncremental t sequence
     → carries t a sequence
     → answerOf t f (question row a) l .refused ≡ 0
-    → SafeThere t f (bitsOf (answerOf t f (question row a) l)) row
+    → SafeThere t f (answerBits (answerOf t f (question row a) l)) row

@@ -1,38 +1,35 @@
 -- Document 01, "The questions" and "Refusal numbers": what each question answers, and the room afterwards.
 use Prim.Native.Nat.{ℕ, _*_, _/_}
-use mathlib.Core.List.{List}
-use mathlib.Core.Bool.{Bool, true, false, cond, _&&_, _||_, not}
-use lib.ListN.{getD, take, drop, replicate}
+use mathlib.Core.Bool.{Bool, true, false, not, cond, _&&_, _||_}
+use lib.ListN.{take, getD, replicate, drop}
 use lib.Dec.{ltb, eqb}
-use Rattle.bytes_at.specs.First.{firstBelow}
-use Rattle.bytes_at.specs.Stages.{_▷_, orNo}
-use Rattle.bytes_at.specs.Steps.{_>>=_}
-use Rattle.column_desc.specs.ColumnDesc.{blank}
-use Rattle.data_managers.specs.declared.Kind.{Kind}
-use Rattle.data_managers.specs.declared.Kind.the-variants.{Other, Standard, Incremental}
-use Rattle.data_managers.specs.declared.Manager.{Manager}
-use Rattle.column_set.specs.declared.Binding.{Binding}
-use Rattle.data_managers.specs.DataManagers.{noManager}
-use Rattle.column_set.specs.ColumnSet.{noBinding}
-use Rattle.table.specs.declared.Description.{Description}
-use Rattle.table.specs.Table.{describedAs}
-use Rattle.buckets.specs.Chain.{padded}
-use Rattle.cell_map.specs.Map.{Bits, placeOf}
-use Rattle.cell_map.specs.Fits.{ceil8}
-use Rattle.standard_header.specs.Header.{headerAt}
-use Rattle.standard_text.specs.Index.{noSet}
-use Rattle.standard_rules.specs.declared.Checked.{Checked}
-use Rattle.standard_rules.specs.Rules.{textOf, mapOf, checkedAs}
-use Rattle.incremental_rules.specs.declared.Checked.{Checked as IncrementalChecked}
-use Rattle.incremental_rules.specs.Rules.{checkedAs as incrementalAs}
-use Rattle.incremental_rules.specs.Places.{placeOf as incrementalPlace}
-use Rattle.lookup_rules.specs.declared.Plan.{Plan}
+use mathlib.Core.List.{List}
 use Rattle.lookup_rules.specs.declared.Question.{Question}
 use Rattle.lookup_rules.specs.declared.Question.the-variants.{Check, Prepare, Place, PlacePlanned, View, ViewPlanned}
+use Rattle.bytes_at.specs.Steps.{_>>=_}
+use Rattle.bytes_at.specs.Lists.{firstBelow}
+use Rattle.table_rules.specs.declared.Kind.{Kind}
+use Rattle.table_rules.specs.declared.Manager.{Manager}
+use Rattle.table_rules.specs.ColumnSet.{noManager}
+use Rattle.table_rules.specs.declared.Kind.the-variants.{Other, Standard, Incremental}
+use Rattle.bytes_at.specs.Stages.{_▷_, orNo}
+use Rattle.table_rules.specs.ColumnDesc.{noColumn}
+use Rattle.table_rules.specs.declared.Description.{Description}
 use Rattle.lookup_rules.specs.declared.Target.{Target}
+use Rattle.table_rules.specs.Table.{bindingIn, describedAs}
+use Rattle.standard_rules.specs.declared.Checked.{Checked}
 use Rattle.lookup_rules.specs.declared.FileChecked.{FileChecked}
+use Rattle.standard_rules.specs.Index.{noSet, indexTextOf}
+use Rattle.incremental_rules.specs.declared.Checked.{Checked as IncrementalChecked}
+use Rattle.standard_rules.specs.Check.{checkedAs, padded}
+use Rattle.incremental_rules.specs.Check.{checkedAs as incrementalAs}
+use Rattle.standard_rules.specs.Map.{ceil8, mapOf}
+use Rattle.lookup_rules.specs.declared.Plan.{Plan}
 use Rattle.lookup_rules.specs.declared.Staged.{Staged}
+use Rattle.standard_rules.specs.Place.{Bits, placeOf}
+use Rattle.incremental_rules.specs.Place.{placeOf as incrementalPlace}
 use Rattle.lookup_rules.specs.declared.Answer.{Answer}
+use Rattle.standard_rules.specs.Header.{headerAt}
 use Rattle.lookup_rules.specs.declared.Verdict.{Verdict}
 use Rattle.lookup_rules.specs.declared.Verdict.the-variants.{Accepted, Refused as NotAccepted}
 use Rattle.lookup_rules.specs.declared.Planned.{Planned}
@@ -85,10 +82,6 @@ isColumn (PlacePlanned row p) count = ltb (p .position) count
 isColumn (View row c) count = ltb c count
 isColumn (ViewPlanned row p) count = ltb (p .position) count
 
--- the binding of the column at a position
-abbrev pub bindingAt : Description → ℕ → Binding
-bindingAt d position = getD (d .bindings) position noBinding
-
 -- the kind of the first manager with a sequence number; there is none where no manager has it
 unfoldable pub kindWith : List Manager → ℕ → ℕ → Kind
 kindWith managers count sequence =
@@ -120,10 +113,10 @@ targetOf d q = do
   position ← positionOf q
   column ← isColumn q (d .«column_count»)
   r1 ← d .refused ▷ orNo column 8
-  b ← bindingAt d position
+  b ← bindingIn d position
   sequence ← sequenceOf q (b .sequence)
   kind ← kindWith (d .managers) (d .«manager_count») sequence
-  c ← getD (d .columns) position blank
+  c ← getD (d .columns) position noColumn
   placed ← isPlaced q (c .datatype .number)
   held ← isHeld kind placed
   r2 ← r1 ▷ orNo held 8
@@ -263,7 +256,7 @@ unfoldable pub roomAfter : List ℕ → List ℕ → Question → ℕ → List �
 roomAfter t f q l =
     let s = stagesOf t f q l in
     cond (eqb (s .refused) 0 && not (s .incremental))
-    (padded l (textOf f (headerAt f (describedAs t .big))))
+    (padded l (indexTextOf f (headerAt f (describedAs t .big))))
     (replicate l 0)
 
 -- File check

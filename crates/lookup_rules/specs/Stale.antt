@@ -1,10 +1,10 @@
 -- Document 01, refusal 12, "stale plan": when a prepared plan is refused, and what it gives where it is not.
 use Prim.Native.Nat.{ℕ}
-use mathlib.Core.Path.{_≡_}
 use mathlib.Core.List.{List}
+use mathlib.Core.Path.{_≡_}
 use Rattle.lookup_rules.specs.declared.Plan.{Plan}
 use Rattle.lookup_rules.specs.declared.Question.{Question}
-use Rattle.lookup_rules.specs.declared.Question.the-variants.{Prepare, Place, PlacePlanned, View, ViewPlanned}
+use Rattle.lookup_rules.specs.declared.Question.the-variants.{PlacePlanned, ViewPlanned, Place, View, Prepare}
 use Rattle.lookup_rules.specs.declared.Answer.{Answer}
 use Rattle.lookup_rules.specs.Questions.{answerOf}
 

@@ -1,9 +1,8 @@
 // The questions File check, Plan, Place and View (document 01, "The questions"), as definitions over the bytes of both files:
 // `specs/`. The code that answers them is in `lookup`.
-
-use column_desc::Column;
-use column_set::Binding;
-use standard_text::Set;
+use standard_rules::Set;
+use table_rules::Binding;
+use table_rules::Column;
 
 // A prepared plan: nine numbers in document 01's order. `datatype` is the data type's number, `per` the rows per bucket.
 pub struct Plan {

@@ -8,17 +8,16 @@ use native.Mathlib.Omega.{arith}
 use lib.Dec.{eqb}
 use lib.ListN.{length, getD, set, replicate, length-set, length-replicate}
 use lib.Seq.{getD-set-same, getD-set-other}
-use Rattle.column_desc.specs.declared.Column.{Column}
-use Rattle.column_desc.specs.ColumnDesc.{blank}
-use Rattle.column_set.specs.declared.Binding.{Binding}
-use Rattle.column_set.specs.ColumnSet.{noBinding}
-use Rattle.table.specs.declared.Description.{Description}
-use Rattle.cell_map.specs.Map.{Column as MapColumn}
-use Rattle.standard_rules.specs.Rules.{columnOf, columnsFrom}
-use Rattle.standard_columns.specs.Columns.{columnBy, columnsBy}
-use Rattle.standard_columns.proofs.Listed.{listed, listed-same, filled, filled-none, filled-more, filled-at}
-use Rattle.standard_columns.proofs.Facts.{columns-listed}
-use Rattle.standard.specs.Standard.{Given}
+use Rattle.table_rules.specs.declared.Column.{Column}
+use Rattle.table_rules.specs.ColumnDesc.{noColumn}
+use Rattle.table_rules.specs.declared.Binding.{Binding}
+use Rattle.table_rules.specs.ColumnSet.{noBinding}
+use Rattle.table_rules.specs.declared.Description.{Description}
+use Rattle.standard_rules.specs.Map.{MapColumn, mapColumn, columnsFrom}
+use Rattle.standard.specs.Columns.{columnBy, columnsBy}
+use Rattle.standard.proofs.columns.Listed.{listed, listed-same, filled, filled-none, filled-more, filled-at}
+use Rattle.standard.proofs.columns.Facts.{columns-listed}
+use Rattle.standard.specs.Check.{Given}
 
 -- the first i numbers of a list of 64 are uInts
 pub record Words (l : List ℕ) (i : ℕ) : Type 0 where
@@ -44,7 +43,7 @@ same-column f g h i = cc
 -- the numbers of the first i of n columns are taken
 module _ (sequence : ℕ) (cs : List Column) (bs : List Binding) where
   abbrev columnIn : ℕ → MapColumn
-  columnIn j = columnOf sequence (getD cs j blank) (getD bs j noBinding)
+  columnIn j = mapColumn sequence (getD cs j noColumn) (getD bs j noBinding)
 
   from-listed : (n i : ℕ) → columnsFrom sequence cs bs n i ≡ listed columnIn n i
   unfolding columnsFrom listed
@@ -74,8 +73,8 @@ module _ (sequence : ℕ) (cs : List Column) (bs : List Binding) where
   }
 
   module _ {n : ℕ} {kept : List Bool} {owners offsets bits : List ℕ} {i : ℕ} (v : Gathering n kept owners offsets bits i) where
-    pub gathering-again : i < n → getD bs i noBinding .offset < 4294967296 → getD cs i blank .bits < 4294967296
-        → Gathering n (set kept i (eqb (getD bs i noBinding .sequence) sequence)) (set owners i (getD bs i noBinding .set)) (set offsets i (getD bs i noBinding .offset)) (set bits i (getD cs i blank .bits)) (i + 1)
+    pub gathering-again : i < n → getD bs i noBinding .offset < 4294967296 → getD cs i noColumn .bits < 4294967296
+        → Gathering n (set kept i (eqb (getD bs i noBinding .sequence) sequence)) (set owners i (getD bs i noBinding .set)) (set offsets i (getD bs i noBinding .offset)) (set bits i (getD cs i noColumn .bits)) (i + 1)
     gathering-again h o b = record {
       few = v .few;
       within = omega arith;

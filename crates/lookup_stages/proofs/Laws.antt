@@ -10,27 +10,25 @@ use lib.ListN.{length, getD, List·getD-eq-default}
 use borrow.Author.Tests.{lt-ltb, le-ltb}
 use Rattle.bytes_at.specs.Stages.{_▷_, orNo}
 use Rattle.bytes_at.proofs.Stages.{then-left}
-use Rattle.column_desc.specs.declared.Column.{Column}
-use Rattle.column_desc.specs.ColumnDesc.{blank}
-use Rattle.column_set.specs.declared.Binding.{Binding}
-use Rattle.column_set.specs.ColumnSet.{noBinding}
-use Rattle.table.specs.declared.Description.{Description}
-use Rattle.table.specs.Table.{describedAs}
-use Rattle.buckets.specs.Chain.{padded}
-use Rattle.standard_text.specs.declared.Set.{Set}
-use Rattle.standard_header.specs.Header.{headerAt}
-use Rattle.standard_text.specs.Index.{noSet}
+use Rattle.table_rules.specs.declared.Column.{Column}
+use Rattle.table_rules.specs.ColumnDesc.{noColumn}
+use Rattle.table_rules.specs.declared.Binding.{Binding}
+use Rattle.table_rules.specs.ColumnSet.{noBinding}
+use Rattle.table_rules.specs.declared.Description.{Description}
+use Rattle.table_rules.specs.Table.{describedAs}
+use Rattle.standard_rules.specs.Check.{padded, checkedAs}
+use Rattle.standard_rules.specs.declared.Set.{Set}
+use Rattle.standard_rules.specs.Header.{headerAt}
+use Rattle.standard_rules.specs.Index.{noSet, indexTextOf}
 use Rattle.standard_rules.specs.declared.Checked.{Checked}
-use Rattle.standard_rules.specs.Rules.{textOf, checkedAs}
 use Rattle.incremental_rules.specs.declared.Checked.{Checked as IncrementalChecked}
-use Rattle.incremental_rules.specs.Rules.{checkedAs as incrementalAs}
+use Rattle.incremental_rules.specs.Check.{checkedAs as incrementalAs}
 use Rattle.lookup_rules.specs.declared.Question.{Question}
 use Rattle.lookup_rules.specs.declared.Target.{Target}
 use Rattle.lookup_rules.specs.Questions.{rowOf, positionOf, targetOf}
 use Rattle.lookup_rules.proofs.Files.{file-standard, file-incremental}
-use Rattle.lookup_rules.proofs.Described.{described}
-use Rattle.lookup_parts.specs.Taken.{Taken}
-use Rattle.lookup_stages.specs.Stages.{Reached}
+use Rattle.table_rules.proofs.Described.{described}
+use Rattle.lookup_stages.specs.Stages.{Taken, Reached}
 
 -- the stages after the file's check
 pub passed : (n : ℕ) (b1 b2 b3 : Bool) {r1 r2 r3 : ℕ} → r1 ≡ n ▷ orNo b1 12 → r2 ≡ r1 ▷ orNo b2 9 → r3 ≡ r2 ▷ orNo b3 14 → r3 ≡ 0 → n ≡ 0
@@ -40,8 +38,8 @@ passed n b1 b2 b3 {r1} {r2} e1 e2 e3 z =
     then-left n _ (sym e1 ∙ z1)
 
 -- the text, by the description that was read
-pub room-text : (t f : List ℕ) (l : ℕ) {d : Description} {x : List ℕ} → d ≡ describedAs t → x ≡ padded l (textOf f (headerAt f (d .big)))
-    → x ≡ padded l (textOf f (headerAt f (describedAs t .big)))
+pub room-text : (t f : List ℕ) (l : ℕ) {d : Description} {x : List ℕ} → d ≡ describedAs t → x ≡ padded l (indexTextOf f (headerAt f (d .big)))
+    → x ≡ padded l (indexTextOf f (headerAt f (describedAs t .big)))
 room-text t f l {d} {x} e h = rw (← e) h
 
 pub no-text : {A : Type 0} {i r : Bool} → i ≡ true → r ≡ i → r ≡ false → A
@@ -56,7 +54,7 @@ picked xs z {i} {at} long e p = elim (decLt i 64) [
 
 module _ (t : List ℕ) (q : Question) {d : Description} (e : d ≡ describedAs t) where
   pub taken : {position at : ℕ} {c : Column} {b : Binding} → position ≡ positionOf q → (position < 64 → at ≡ position)
-      → c ≡ cond (ltb position 64) (getD (d .columns) at blank) blank → b ≡ cond (ltb position 64) (getD (d .bindings) at noBinding) noBinding
+      → c ≡ cond (ltb position 64) (getD (d .columns) at noColumn) noColumn → b ≡ cond (ltb position 64) (getD (d .bindings) at noBinding) noBinding
       → Taken d q (d .refused) (d .«column_count») (d .managers) (d .«manager_count») c b
   taken p a x y =
       record {
@@ -64,7 +62,7 @@ module _ (t : List ℕ) (q : Question) {d : Description} (e : d ≡ describedAs 
         columns-are = refl;
         managers-are = refl;
         count-is = refl;
-        column-is = picked (d .columns) blank (rw e (described t .columns-places)) a x ∙ ap (λ i. getD (d .columns) i blank) p;
+        column-is = picked (d .columns) noColumn (rw e (described t .columns-places)) a x ∙ ap (λ i. getD (d .columns) i noColumn) p;
         binding-is = picked (d .bindings) noBinding (rw e (described t .bindings-places)) a y ∙ ap (λ i. getD (d .bindings) i noBinding) p;
       }
 

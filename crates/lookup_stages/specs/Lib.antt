@@ -1,2 +1,2 @@
--- The contracts cite the definitions of `lookup_rules`, and this.
+-- The definitions that the contracts cite.
 pub mod Stages

@@ -1,12 +1,27 @@
--- What the last stages of a question start from.
+-- What the code hands from one stage of a question to the next.
 use Prim.Native.Nat.{ℕ}
 use mathlib.Core.Path.{_≡_}
 use mathlib.Core.List.{List}
-use Rattle.table.specs.Table.{describedAs}
+use lib.ListN.{getD}
+use Rattle.table_rules.specs.declared.Column.{Column}
+use Rattle.table_rules.specs.ColumnDesc.{noColumn}
+use Rattle.table_rules.specs.declared.Binding.{Binding}
+use Rattle.table_rules.specs.declared.Manager.{Manager}
+use Rattle.table_rules.specs.declared.Description.{Description}
 use Rattle.lookup_rules.specs.declared.Question.{Question}
+use Rattle.lookup_rules.specs.Questions.{positionOf, rowOf, targetOf, fileOf}
+use Rattle.table_rules.specs.Table.{bindingIn, describedAs}
 use Rattle.lookup_rules.specs.declared.Target.{Target}
 use Rattle.lookup_rules.specs.declared.FileChecked.{FileChecked}
-use Rattle.lookup_rules.specs.Questions.{rowOf, targetOf, fileOf}
+
+-- the refusal, the number of columns, the managers, and the column at the question's position with its binding are those of a table
+pub record Taken (d : Description) (q : Question) (refused columns : ℕ) (managers : List Manager) (count : ℕ) (c : Column) (b : Binding) : Type 0 where
+  pub refused-is : refused ≡ d .refused
+  pub columns-are : columns ≡ d .«column_count»
+  pub managers-are : managers ≡ d .managers
+  pub count-is : count ≡ d .«manager_count»
+  pub column-is : c ≡ getD (d .columns) (positionOf q) noColumn
+  pub binding-is : b ≡ bindingIn d (positionOf q)
 
 -- What a table and a file give a question: the column and the manager, what the check of the manager's file tells, and the row
 -- count.

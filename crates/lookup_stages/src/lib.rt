@@ -1,15 +1,17 @@
 // All stages of a question over a table and a data file, in their order (document 01, "The questions").
+pub mod planning;
+
 ghost use mathlib.Core.Path.{_≡_};
-ghost use mathlib.Core.Bool.{false};
 ghost use mathlib.Core.List.{List};
 ghost use Prim.Native.Nat.{ℕ, _≤_, _<_};
+ghost use mathlib.Core.Bool.{false};
 ghost use lib.ListN.{length};
-ghost use Rattle.table.specs.Table.{describedAs};
-ghost use Rattle.buckets.specs.Chain.{padded};
-ghost use Rattle.standard_header.specs.Header.{headerAt};
-ghost use Rattle.standard_rules.specs.Rules.{textOf};
 ghost use Rattle.lookup_rules.specs.Questions.{stagesOf};
 ghost use Rattle.lookup_stages.specs.Stages.{Reached};
+ghost use Rattle.table_rules.specs.Table.{describedAs};
+ghost use Rattle.standard_rules.specs.Check.{padded};
+ghost use Rattle.standard_rules.specs.Header.{headerAt};
+ghost use Rattle.standard_rules.specs.Index.{indexTextOf};
 use lookup_rules::FileChecked;
 use lookup_rules::Question;
 use lookup_rules::Staged;
@@ -20,14 +22,14 @@ fn finish(q: Question, g: Target, m: FileChecked, rows: usize) -> Staged
     ensures { λ r. ⌜ ((t f : List ℕ) (l : ℕ) → Reached t f q l g m rows → r ≡ stagesOf t f q l) × (r .refused ≡ 0 → m .refused ≡ 0) × (r .incremental ≡ g .incremental) ⌝ }
     ensures bounded { λ r. ⌜ (r .plan .offset < 4294967296) × (r .plan .bits ≤ 4294967296) ⌝ }
 {
-    let p = lookup_parts::plan_for(g, m);
+    let p = crate::planning::plan_for(g, m);
     let s = m.set;
-    let fresh = question_tests::fresh(q, p);
-    let r1 = question_tests::stage(m.refused, fresh, 12);
-    let below = question_tests::below(q, rows);
-    let r2 = question_tests::stage(r1, below, 9);
-    let seen = question_tests::seen(q, g.incremental, p.datatype);
-    let r3 = question_tests::stage(r2, seen, 14);
+    let fresh = lookup_question::tests::fresh(q, p);
+    let r1 = lookup_question::tests::stage(m.refused, fresh, 12);
+    let below = lookup_question::tests::below(q, rows);
+    let r2 = lookup_question::tests::stage(r1, below, 9);
+    let seen = lookup_question::tests::seen(q, g.incremental, p.datatype);
+    let r3 = lookup_question::tests::stage(r2, seen, 14);
     Staged {
         refused: r3,
         plan: p,
@@ -42,18 +44,18 @@ fn finish(q: Question, g: Target, m: FileChecked, rows: usize) -> Staged
 // anything. The description is read here, where it lies: a function that takes it copies it. So StandardStMan's check is lent the
 // columns' numbers.
 pub fn stages(table: &[u8], file: &[u8], q: Question, room: &mut [u8]) -> Staged
-    ensures { λ r. ⌜ (r ≡ stagesOf (now (table .entry)) (now (file .entry)) q (length (now (room .entry)))) × (r .refused ≡ 0 → r .incremental ≡ false → now (room .exit) ≡ padded (length (now (room .entry))) (textOf (now (file .entry)) (headerAt (now (file .entry)) (describedAs (now (table .entry)) .big)))) ⌝ }
+    ensures { λ r. ⌜ (r ≡ stagesOf (now (table .entry)) (now (file .entry)) q (length (now (room .entry)))) × (r .refused ≡ 0 → r .incremental ≡ false → now (room .exit) ≡ padded (length (now (room .entry))) (indexTextOf (now (file .entry)) (headerAt (now (file .entry)) (describedAs (now (table .entry)) .big)))) ⌝ }
     ensures bounded { λ r. ⌜ (r .plan .offset < 4294967296) × (r .plan .bits ≤ 4294967296) ⌝ }
 {
     let d = table::describe(table);
-    let position = question_parts::position_of(q);
-    let at = lookup_parts::place_of(position);
+    let position = lookup_question::parts::position_of(q);
+    let at = crate::planning::place_of(position);
     let described = d.columns[at];
     let bound = d.bindings[at];
-    let column = lookup_parts::column_if(position, described);
-    let binding = lookup_parts::binding_if(position, bound);
+    let column = crate::planning::column_if(position, described);
+    let binding = crate::planning::binding_if(position, bound);
     let managers = d.managers;
-    let g = lookup_parts::find_target(
+    let g = crate::planning::find_target(
         d.refused,
         d.column_count,
         managers,
@@ -63,9 +65,9 @@ pub fn stages(table: &[u8], file: &[u8], q: Question, room: &mut [u8]) -> Staged
         q,
     );
     if g.incremental {
-        let row = question_parts::row_of(q);
+        let row = lookup_question::parts::row_of(q);
         let there = incremental::check(d, file, g.sequence, g.refused, g.position, row);
-        let none = standard_text::no_set();
+        let none = standard_index::text::no_set();
         let found = FileChecked {
             refused: there.refused,
             size: there.size,

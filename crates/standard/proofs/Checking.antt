@@ -9,20 +9,19 @@ use lib.Dec.{leb, leb→le}
 use lib.ListN.{length, getD, take, drop}
 use Rattle.bytes_at.specs.Stages.{_▷_, orNo}
 use Rattle.bytes_at.proofs.Stages.{then-left, then-right, or-passed, stops, goes, regroup, no-is, yes-is}
-use Rattle.buckets.specs.Chain.{Area, indexOk, indexText, freeOk, padded}
-use Rattle.buckets.proofs.Room.{index-long, padded-text}
-use Rattle.cell_map.specs.Map.{Column as MapColumn}
-use Rattle.cell_map.specs.Fits.{fits}
-use Rattle.table.specs.declared.Description.{Description}
-use Rattle.standard_header.specs.declared.Header.{Header}
-use Rattle.manager_file.specs.Start.{longEnough}
-use Rattle.standard_header.specs.Header.{headerAt, HeaderBounds}
-use Rattle.standard_text.specs.declared.Set.{Set}
-use Rattle.standard_text.specs.declared.Index.{Index}
-use Rattle.standard_text.specs.Index.{noSet, indexAt}
+use Rattle.buckets.specs.Area.{Area}
+use Rattle.standard_rules.specs.Index.{indexOk, indexText, freeOk, noSet, indexAt, indexTextOf}
+use Rattle.standard_rules.specs.Check.{padded, longEnough, refusalOf, checkedAs}
+use Rattle.standard_index.proofs.chain.Room.{index-long, padded-text}
+use Rattle.standard_rules.specs.Map.{MapColumn, fits, setsFrom, mapWith, mapOf}
+use Rattle.table_rules.specs.declared.Description.{Description}
+use Rattle.standard_rules.specs.declared.Header.{Header}
+use Rattle.standard_rules.specs.Header.{headerAt}
+use Rattle.standard_index.specs.Bounds.{HeaderBounds}
+use Rattle.standard_rules.specs.declared.Set.{Set}
+use Rattle.standard_rules.specs.declared.Index.{Index}
 use Rattle.standard_rules.specs.declared.Checked.{Checked}
-use Rattle.standard_rules.specs.Rules.{textOf, setsFrom, mapWith, mapOf, refusalOf, checkedAs}
-use Rattle.standard.specs.Standard.{Given, mapped, beforeIndex, refusedFile}
+use Rattle.standard.specs.Check.{Given, mapped, beforeIndex, refusedFile}
 
 -- ---- what the first stages show
 pub head-passed : (refused : ℕ) (h : Header) (len room : ℕ) → beforeIndex refused h len room ≡ 0 → h .refused ≡ 0
@@ -46,24 +45,24 @@ area-passed refused h f room b z = record {
 -- ---- the text in the room, and what is read from it
 module _ (f : List ℕ) (h : Header) (l : ℕ) (area : Area f (h .size) (h .count)) {i : Bool}
     (a : i ≡ indexOk f (h .size) (h .count) (h .«index_count») (h .«first_index») (h .offset) (h .length)) (b : i ≡ true) where
-  room-is : {x : List ℕ} → (i ≡ true → x ≡ padded l (indexText f (h .size) (h .«index_count») (h .«first_index») (h .offset) (h .length))) → x ≡ padded l (textOf f h)
-  unfolding textOf
+  room-is : {x : List ℕ} → (i ≡ true → x ≡ padded l (indexText f (h .size) (h .«index_count») (h .«first_index») (h .offset) (h .length))) → x ≡ padded l (indexTextOf f h)
+  unfolding indexTextOf
   room-is p = p b
 
   text-is : {x y : List ℕ} → (i ≡ true → x ≡ padded l (indexText f (h .size) (h .«index_count») (h .«first_index») (h .offset) (h .length)))
-      → y ≡ take (h .length) (drop 0 x) → y ≡ textOf f h
-  unfolding textOf
+      → y ≡ take (h .length) (drop 0 x) → y ≡ indexTextOf f h
+  unfolding indexTextOf
   text-is p q = q ∙ ap (λ (r : List ℕ). take (h .length) r) (p b) ∙ padded-text l _ (h .length) (index-long f _ _ _ _ _ _ area (rw (← a, b) tt))
 
   module _ {x y : List ℕ} (p : i ≡ true → x ≡ padded l (indexText f (h .size) (h .«index_count») (h .«first_index») (h .offset) (h .length))) (q : y ≡ take (h .length) (drop 0 x)) where
-    pub index-is : {ix : Index} → ix ≡ indexAt y (h .sets) → ix ≡ indexAt (textOf f h) (h .sets)
+    pub index-is : {ix : Index} → ix ≡ indexAt y (h .sets) → ix ≡ indexAt (indexTextOf f h) (h .sets)
     index-is v = v ∙ ap (λ (t : List ℕ). indexAt t (h .sets)) (text-is p q)
 
     pub map-is : (rows : ℕ) (cs : List MapColumn) (sets : List Set) {m : Bool} → m ≡ fits (mapWith rows cs f h (setsFrom y sets (h .sets) 0))
-        → m ≡ fits (mapWith rows cs f h (setsFrom (textOf f h) sets (h .sets) 0))
+        → m ≡ fits (mapWith rows cs f h (setsFrom (indexTextOf f h) sets (h .sets) 0))
     map-is rows cs sets v = v ∙ ap (λ (t : List ℕ). fits (mapWith rows cs f h (setsFrom t sets (h .sets) 0))) (text-is p q)
 
-    pub room-holds : x ≡ padded l (textOf f h)
+    pub room-holds : x ≡ padded l (indexTextOf f h)
     room-holds = room-is p
 
 -- ---- the whole refusal, and what is answered, of any table whose rows, endianness and columns are those given. h is the header
@@ -85,13 +84,13 @@ module _ (rows : ℕ) (big : Bool) (cs : List MapColumn) (f : List ℕ) (refused
 
   -- the map as the code has it: over the header, the text and the sets that were read
   abbrev fitting : Bool
-  fitting = fits (mapWith rows cs f h (setsFrom (textOf f h) (indexAt (textOf f h) (h .sets) .sets) (h .sets) 0))
+  fitting = fits (mapWith rows cs f h (setsFrom (indexTextOf f h) (indexAt (indexTextOf f h) (h .sets) .sets) (h .sets) 0))
 
   same-map : (d : Description) (sequence : ℕ) → Given d sequence rows big cs → fits (mapOf d sequence f) ≡ fitting
   unfolding mapOf
   same-map d sequence g = rw (g .rows-are, g .columns-are, g .big-is, ← e)
 
-  staged : Refuses (beforeIndex refused h (length f) l ▷ (orNo indexed 10 ▷ (indexAt (textOf f h) (h .sets) .refused ▷ (orNo freed 10 ▷ orNo fitting 11))))
+  staged : Refuses (beforeIndex refused h (length f) l ▷ (orNo indexed 10 ▷ (indexAt (indexTextOf f h) (h .sets) .refused ▷ (orNo freed 10 ▷ orNo fitting 11))))
   unfolding refusalOf beforeIndex
   staged d sequence g = rw (same-map d sequence g, g .big-is, ← e) (sym (rw (regroup, regroup, regroup)))
 
@@ -104,13 +103,13 @@ module _ (rows : ℕ) (big : Bool) (cs : List MapColumn) (f : List ℕ) (refused
   out-first n q z p = out n (λ d sequence g. staged d sequence g ∙ rw (← q) (stops n _ z)) z p
 
   module _ {n : ℕ} (q : n ≡ beforeIndex refused h (length f) l) (z : n ≡ 0) where
-    after-first : Refuses (orNo indexed 10 ▷ (indexAt (textOf f h) (h .sets) .refused ▷ (orNo freed 10 ▷ orNo fitting 11)))
+    after-first : Refuses (orNo indexed 10 ▷ (indexAt (indexTextOf f h) (h .sets) .refused ▷ (orNo freed 10 ▷ orNo fitting 11)))
     after-first d sequence g = staged d sequence g ∙ goes _ _ (sym q ∙ z)
 
     pub out-index : {i : Bool} {r : Checked} {X : Type 0} → i ≡ indexed → i ≡ false → r ≡ refusedFile 10 → Answers r X
     out-index a b p = out 10 (λ d sequence g. after-first d sequence g ∙ rw (no-is indexed 10 (sym a ∙ b)) (stops 10 _ (omega arith))) (omega arith) p
 
-    module _ {i : Bool} (a : i ≡ indexed) (b : i ≡ true) {x : Index} (y : x ≡ indexAt (textOf f h) (h .sets)) where
+    module _ {i : Bool} (a : i ≡ indexed) (b : i ≡ true) {x : Index} (y : x ≡ indexAt (indexTextOf f h) (h .sets)) where
       after-index : Refuses (x .refused ▷ (orNo freed 10 ▷ orNo fitting 11))
       after-index d sequence g = after-first d sequence g ∙ goes _ _ (yes-is indexed 10 (sym a ∙ b)) ∙ rw y
 
@@ -122,15 +121,15 @@ module _ (rows : ℕ) (big : Bool) (cs : List MapColumn) (f : List ℕ) (refused
         out-free c v p = out 10 (λ d sequence g. after-index d sequence g ∙ goes _ _ w ∙ rw (no-is freed 10 (sym c ∙ v)) (stops 10 _ (omega arith))) (omega arith) p
 
         module _ {t : Bool} (c : t ≡ freed) (v : t ≡ true) where
-          after-free : {m : Bool} → m ≡ fits (mapWith rows cs f h (setsFrom (textOf f h) (x .sets) (h .sets) 0)) → Refuses (orNo m 11)
+          after-free : {m : Bool} → m ≡ fits (mapWith rows cs f h (setsFrom (indexTextOf f h) (x .sets) (h .sets) 0)) → Refuses (orNo m 11)
           after-free u d sequence g = after-index d sequence g ∙ goes _ _ w ∙ goes _ _ (yes-is freed 10 (sym c ∙ v)) ∙ rw (u, y)
 
-          module _ {m : Bool} (u : m ≡ fits (mapWith rows cs f h (setsFrom (textOf f h) (x .sets) (h .sets) 0))) {r : Checked} {room : List ℕ}
-              (p : r ≡ mapped m (h .size) (getD (x .sets) k noSet)) (o : room ≡ padded l (textOf f h)) where
-            by-map : (b : Bool) → m ≡ b → Answers r (room ≡ padded l (textOf f (headerAt f big)))
+          module _ {m : Bool} (u : m ≡ fits (mapWith rows cs f h (setsFrom (indexTextOf f h) (x .sets) (h .sets) 0))) {r : Checked} {room : List ℕ}
+              (p : r ≡ mapped m (h .size) (getD (x .sets) k noSet)) (o : room ≡ padded l (indexTextOf f h)) where
+            by-map : (b : Bool) → m ≡ b → Answers r (room ≡ padded l (indexTextOf f (headerAt f big)))
             unfolding mapped checkedAs
             by-map false j = out 11 (λ d sequence g. after-free u d sequence g ∙ no-is _ 11 j) (omega arith) (rw j at p)
             by-map true j = (λ d sequence g. (rw j at p) ∙ sym (rw (after-free u d sequence g ∙ yes-is _ 11 j, g .big-is, ← e, ← y)), λ z. rw (← e) o)
 
-            pub out-map : Answers r (room ≡ padded l (textOf f (headerAt f big)))
+            pub out-map : Answers r (room ≡ padded l (indexTextOf f (headerAt f big)))
             out-map = by-map m refl

@@ -4,18 +4,15 @@ use mathlib.Core.Bool.{Bool, true, false, _&&_}
 use mathlib.Core.List.{List}
 use Prim.Native.Nat.{ℕ, _≤_}
 use lib.ListN.{length}
-use Rattle.buckets.specs.Chain.{links}
-use Rattle.cell_map.specs.Tests.{all, allFrom, pairs}
-use Rattle.cell_map.specs.Map.{Map, Column as MapColumn}
-use Rattle.cell_map.specs.Fits.{setFits, countFits, setKnown, inBucket, clear, extents, below, unlike, used, fits}
-use Rattle.standard_header.specs.declared.Header.{Header}
-use Rattle.standard_text.specs.declared.Set.{Set}
+use Rattle.standard_rules.specs.Index.{links}
+use Rattle.bytes_at.specs.Lists.{all, allFrom, pairs, below, unlike}
+use Rattle.standard_rules.specs.Map.{Map, MapColumn, setFits, countFits, setKnown, inBucket, clear, extents, used, fits, setsFrom, mapWith}
+use Rattle.standard_rules.specs.declared.Header.{Header}
+use Rattle.standard_rules.specs.declared.Set.{Set}
 use Rattle.standard_rules.specs.declared.Checked.{Checked}
-use Rattle.standard_rules.specs.Rules.{setsFrom, mapWith}
-use Rattle.standard_sets.specs.Apart.{apartOf}
-use Rattle.standard_sets.specs.Sets.{rowsFit, dataBy}
-use Rattle.standard_columns.specs.Columns.{columnsTest}
-use Rattle.standard.specs.Standard.{mapped, refusedFile}
+use Rattle.standard.specs.Sets.{apartOf, rowsFit, dataBy}
+use Rattle.standard.specs.Columns.{columnsTest}
+use Rattle.standard.specs.Check.{mapped, refusedFile}
 use Rattle.standard.proofs.Gathering.{Gathering, sets-length, rows-in, data-in, counts-in, extents-in}
 
 regroup : (a b c d e f g : Bool) → a && b && c && d && e && f && g ≡ (a && (((c && d) && b) && e)) && (f && g)

@@ -8,23 +8,22 @@ use native.Mathlib.Omega.{arith}
 use lib.Dec.{eqb}
 use lib.ListN.{length, getD, set, replicate, getD-replicate, length-replicate, List·getD-eq-default}
 use borrow.Author.Tests.{eq-eqb}
-use Rattle.cell_map.specs.Tests.{all, allFrom}
-use Rattle.cell_map.specs.Map.{Map, Column as MapColumn, Set as MapSet, setAt, noSet as noMapSet}
-use Rattle.cell_map.specs.Fits.{setFits, covers, countFits, dataOf, extentOf}
-use Rattle.row_index.specs.Numbers.{numbersAt}
-use Rattle.row_index.proofs.Numbers.{numbers-length}
-use Rattle.standard_text.specs.declared.Set.{Set}
-use Rattle.standard_text.specs.Index.{noSet, SetInside}
-use Rattle.standard_rules.specs.Rules.{setOf, setsFrom}
-use Rattle.standard_sets.specs.Sets.{rowsFit, dataBy}
-use Rattle.standard_columns.specs.Columns.{countsFit, extentsBy}
-use Rattle.standard_columns.proofs.Listed.{listed, listed-length, listed-at, filled, filled-none, filled-more, filled-at, filled-past}
-use Rattle.standard_columns.proofs.Facts.{extents-same}
+use Rattle.bytes_at.specs.Lists.{all, allFrom}
+use Rattle.standard_rules.specs.Map.{Map, MapColumn, MapSet, setAt, noMapSet, setFits, covers, countFits, dataOf, extentOf, mapSet, setsFrom}
+use Rattle.bytes_at.specs.Number.{numbersAt}
+use Rattle.bytes_at.proofs.Listed.{numbers-length}
+use Rattle.standard_rules.specs.declared.Set.{Set}
+use Rattle.standard_rules.specs.Index.{noSet}
+use Rattle.standard_index.specs.Bounds.{SetInside}
+use Rattle.standard.specs.Sets.{rowsFit, dataBy}
+use Rattle.standard.specs.Columns.{countsFit, extentsBy}
+use Rattle.standard.proofs.columns.Listed.{listed, listed-length, listed-at, filled, filled-none, filled-more, filled-at, filled-past}
+use Rattle.standard.proofs.columns.Facts.{extents-same}
 
 -- ---- the sets of a map
 module _ (text : List ℕ) (sets : List Set) where
   abbrev setIn : ℕ → MapSet
-  setIn k = setOf text (getD sets k noSet)
+  setIn k = mapSet text (getD sets k noSet)
 
   sets-listed : (n i : ℕ) → setsFrom text sets n i ≡ listed setIn n i
   unfolding setsFrom listed
@@ -34,11 +33,11 @@ module _ (text : List ℕ) (sets : List Set) where
   pub sets-length : (n i : ℕ) → length (setsFrom text sets n i) ≡ n
   sets-length n i = rw (sets-listed n i) (listed-length setIn n i)
 
-  pub sets-at : (d : MapSet) (n k : ℕ) → k < n → getD (setsFrom text sets n 0) k d ≡ setOf text (getD sets k noSet)
+  pub sets-at : (d : MapSet) (n k : ℕ) → k < n → getD (setsFrom text sets n 0) k d ≡ mapSet text (getD sets k noSet)
   sets-at d n k h = let e : k + 0 ≡ k = omega arith in rw (sets-listed n 0, listed-at setIn d n 0 k h, e)
 
   -- both Blocks have as many elements as there are entries
-  set-fits : (rows k : ℕ) → setFits rows (setOf text (getD sets k noSet))
+  set-fits : (rows k : ℕ) → setFits rows (mapSet text (getD sets k noSet))
       ≡ covers rows (getD sets k noSet .per) 0 (numbersAt true 4 text (getD sets k noSet .lasts) (getD sets k noSet .entries))
   set-fits rows k =
       let s = getD sets k noSet in

@@ -1,2 +1,5 @@
 -- The definitions that the contracts cite.
-pub mod Standard
+pub mod Columns
+pub mod Sets
+pub mod Check
+pub mod Bit

@@ -1,25 +1,31 @@
 // The check of a StandardStMan file (document 01, "StandardStMan"). The columns of the table are lent by position, as
 // `standard_columns` takes them.
+pub mod columns;
+pub mod extents;
+pub mod place;
+pub mod sets;
+
 ghost use mathlib.Core.Path.{_≡_};
 ghost use Prim.Native.Nat.{ℕ, _≤_, _<_};
 ghost use lib.ListN.{length, getD};
-ghost use Rattle.table.specs.declared.Description.{Description};
-ghost use Rattle.buckets.specs.Chain.{Area, padded};
-ghost use Rattle.cell_map.specs.Fits.{fits};
-ghost use Rattle.standard_header.specs.Header.{headerAt};
-ghost use Rattle.standard_text.specs.Index.{noSet, SetInside};
-ghost use Rattle.standard_rules.specs.Rules.{textOf, setsFrom, mapWith, checkedAs};
-ghost use Rattle.standard_columns.specs.Columns.{columnsBy};
-ghost use Rattle.standard.specs.Standard.{Given, mapped, beforeIndex, refusedFile};
-use standard_header::Header;
+ghost use Rattle.standard.specs.Check.{refusedFile, mapped, beforeIndex, Given};
+ghost use Rattle.buckets.specs.Area.{Area};
+ghost use Rattle.standard_rules.specs.Index.{noSet, indexTextOf};
+ghost use Rattle.standard_index.specs.Bounds.{SetInside};
+ghost use Rattle.standard_rules.specs.Map.{fits, setsFrom, mapWith};
+ghost use Rattle.standard.specs.Columns.{columnsBy};
+ghost use Rattle.standard_rules.specs.Check.{padded, checkedAs};
+ghost use Rattle.table_rules.specs.declared.Description.{Description};
+ghost use Rattle.standard_rules.specs.Header.{headerAt};
 use standard_rules::Checked;
-use standard_text::Set;
+use standard_rules::Header;
+use standard_rules::Set;
 
 // A refused file: its number and zeros.
 fn refuse(number: usize) -> Checked
     ensures { λ r. ⌜ r ≡ refusedFile number ⌝ }
 {
-    let none = standard_text::no_set();
+    let none = standard_index::text::no_set();
     Checked {
         refused: number,
         size: 0,
@@ -65,13 +71,13 @@ fn check_map(
         buckets[i] = s.buckets;
         i += 1;
     }
-    if !standard_sets::sets_fit(text, &entries, &pers, &lasts, m, rows) {
+    if !crate::sets::sets_fit(text, &entries, &pers, &lasts, m, rows) {
         return refuse(11);
     }
-    if !standard_columns::columns_fit(kept, owners, offsets, bits, n, &pers, &columns, m, size) {
+    if !crate::columns::columns_fit(kept, owners, offsets, bits, n, &pers, &columns, m, size) {
         return refuse(11);
     }
-    if !standard_sets::buckets_apart(
+    if !crate::sets::buckets_apart(
         f,
         size,
         count,
@@ -94,7 +100,7 @@ fn check_map(
             set: set,
         };
     }
-    let none = standard_text::no_set();
+    let none = standard_index::text::no_set();
     Checked {
         refused: 0,
         size: size,
@@ -114,7 +120,7 @@ fn before_index(refused: usize, h: Header, len: usize, room: usize) -> usize
     if own != 0 {
         return own;
     }
-    if !manager_file::long_enough(len, h.size, h.count) {
+    if !buckets::file::long_enough(len, h.size, h.count) {
         return 1;
     }
     if room < h.length {
@@ -140,14 +146,14 @@ pub fn check(
 ) -> Checked
     requires { ⌜ n ≤ 64 ⌝ }
     requires { ⌜ ((i : ℕ) → i < n → getD (now offsets) i 0 < 4294967296) × ((i : ℕ) → i < n → getD (now bits) i 0 < 4294967296) ⌝ }
-    ensures { λ r. ⌜ ((d : Description) (sequence : ℕ) → Given d sequence rows big (columnsBy (now (kept .entry)) (now (owners .entry)) (now (offsets .entry)) (now (bits .entry)) n 0) → r ≡ checkedAs d sequence (now (f .entry)) refused k (length (now (room .entry)))) × (r .refused ≡ 0 → now (room .exit) ≡ padded (length (now (room .entry))) (textOf (now (f .entry)) (headerAt (now (f .entry)) big))) ⌝ }
+    ensures { λ r. ⌜ ((d : Description) (sequence : ℕ) → Given d sequence rows big (columnsBy (now (kept .entry)) (now (owners .entry)) (now (offsets .entry)) (now (bits .entry)) n 0) → r ≡ checkedAs d sequence (now (f .entry)) refused k (length (now (room .entry)))) × (r .refused ≡ 0 → now (room .exit) ≡ padded (length (now (room .entry))) (indexTextOf (now (f .entry)) (headerAt (now (f .entry)) big))) ⌝ }
 {
-    let h = standard_header::read_header(f, big);
+    let h = standard_index::header::read_header(f, big);
     let first = before_index(refused, h, f.len(), room.len());
     if first != 0 {
         return refuse(first);
     }
-    if !buckets::gather_index(
+    if !standard_index::chain::gather_index(
         f,
         h.size,
         h.count,
@@ -160,12 +166,12 @@ pub fn check(
         return refuse(10);
     }
     let text = bytes_at::part(room, 0, h.length);
-    let index = standard_text::read_index(text, h.sets);
+    let index = standard_index::text::read_index(text, h.sets);
     let own = index.refused;
     if own != 0 {
         return refuse(own);
     }
-    if !free_list::free_list_ok(f, h.size, h.count, h.free_count, h.first_free) {
+    if !buckets::free_list::free_list_ok(f, h.size, h.count, h.free_count, h.first_free) {
         return refuse(10);
     }
     let sets = index.sets;

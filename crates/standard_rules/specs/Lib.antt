@@ -1,2 +1,8 @@
 -- The rules that the contracts of `standard` and the questions cite.
-pub mod Rules
+pub mod Header
+pub mod Index
+pub mod Map
+pub mod Check
+pub mod Place
+pub mod Demand
+pub mod Halving

@@ -1,46 +1,23 @@
 // table.dat (document 01, "table.dat"; Note 260, 3.1): Description and Column by name.
+pub mod names;
+
 ghost use mathlib.Core.Path.{_≡_};
 ghost use Prim.Native.Nat.{_≤_};
-ghost use Rattle.table.specs.Table.{headAt, descHeadAt, describedAs, refusedWith};
-use aipsio::Cursor;
+ghost use Rattle.table_rules.specs.Table.{tableHeadAt, tableDescHeadAt, refusedTable, describedAs};
+use aipsio_rules::Cursor;
 use bytes_at::Width;
-use column_desc::Column;
-use column_set::Binding;
-use data_managers::Manager;
-
-// What table.dat says; zeros where it is refused. The columns stand in stored order, each with its binding.
-pub struct Description {
-    pub refused: usize,
-    pub rows: usize,
-    pub column_count: usize,
-    pub manager_count: usize,
-    pub columns: [Column; 64],
-    pub bindings: [Binding; 64],
-    pub managers: [Manager; 16],
-    pub big: bool,
-}
-
-// Row count and endianness, and the cursor past the table type.
-pub struct Head {
-    pub rows: usize,
-    pub big: bool,
-    pub next: Cursor,
-}
-
-// The number of columns, and the cursor at the first column description.
-pub struct DescHead {
-    pub count: usize,
-    pub next: Cursor,
-}
+use table_rules::Description;
+use table_rules::TableDescHead;
+use table_rules::TableHead;
 
 // Row count, endianness and table type.
-fn read_head(s: &[u8], c: Cursor) -> Head
-    ensures { λ r. ⌜ r ≡ headAt (now (s .entry)) c ⌝ }
+fn read_head(s: &[u8], c: Cursor) -> TableHead
+    ensures { λ r. ⌜ r ≡ tableHeadAt (now (s .entry)) c ⌝ }
 {
-    let rows = aipsio_numbers::number(s, c, Width::Four, 0, 2147483647);
-    let endian = aipsio_numbers::code(s, rows.next, 0, 1);
-    let kind = aipsio_strings::name(s, endian.next, b"PlainTable");
-    Head {
+    let rows = aipsio::numbers::number(s, c, Width::Four, 0, 2147483647);
+    let endian = aipsio::numbers::code(s, rows.next, 0, 1);
+    let kind = aipsio::strings::name(s, endian.next, b"PlainTable");
+    TableHead {
         rows: rows.value,
         big: endian.value == 1,
         next: kind,
@@ -48,18 +25,18 @@ fn read_head(s: &[u8], c: Cursor) -> Head
 }
 
 // The fields of TableDesc before its columns: name, version, comment, keywords, private keywords, and the column count.
-fn read_desc_head(s: &[u8], c: Cursor) -> DescHead
-    ensures { λ r. ⌜ r ≡ descHeadAt (now (s .entry)) c ⌝ }
+fn read_desc_head(s: &[u8], c: Cursor) -> TableDescHead
+    ensures { λ r. ⌜ r ≡ tableDescHeadAt (now (s .entry)) c ⌝ }
     ensures bounded { λ r. ⌜ r .count ≤ 64 ⌝ }
 {
-    let name = aipsio_strings::string(s, c, 0, 4096);
-    let version = aipsio_strings::string(s, name.next, 0, 4096);
-    let comment = aipsio_strings::string(s, version.next, 0, 4096);
-    let keywords = aipsio_objects::record(s, comment.next);
-    let private = aipsio_objects::record(s, keywords);
-    let n = aipsio_numbers::number(s, private, Width::Four, 1, 64);
+    let name = aipsio::strings::string(s, c, 0, 4096);
+    let version = aipsio::strings::string(s, name.next, 0, 4096);
+    let comment = aipsio::strings::string(s, version.next, 0, 4096);
+    let keywords = aipsio::objects::record(s, comment.next);
+    let private = aipsio::objects::record(s, keywords);
+    let n = aipsio::numbers::number(s, private, Width::Four, 1, 64);
     let next = n.next;
-    DescHead {
+    TableDescHead {
         count: n.value,
         next: next,
     }
@@ -67,11 +44,11 @@ fn read_desc_head(s: &[u8], c: Cursor) -> DescHead
 
 // A refusal carries its number and zeros.
 fn refuse(number: usize) -> Description
-    ensures { λ r. ⌜ r ≡ refusedWith number ⌝ }
+    ensures { λ r. ⌜ r ≡ refusedTable number ⌝ }
 {
-    let column = column_desc::no_column();
-    let binding = column_set::no_binding();
-    let manager = data_managers::no_manager();
+    let column = table_column_desc::columns::no_column();
+    let binding = table_column_set::bindings::no_binding();
+    let manager = table_column_set::data_managers::no_manager();
     Description {
         refused: number,
         rows: 0,
@@ -96,12 +73,12 @@ pub fn describe(s: &[u8]) -> Description
         refused: 0,
     };
     let c = aipsio::judge(whole, 65536, s.len() <= 65536, 4);
-    let m = aipsio_numbers::mark(s, c);
+    let m = aipsio::numbers::mark(s, c);
     // Table
-    let t = aipsio_objects::open(s, m, 5, 0x5461626c, 0x61626c65, 2, 2);
+    let t = aipsio::objects::open(s, m, 5, 0x5461626c, 0x61626c65, 2, 2);
     let head = read_head(s, t.next);
     // TableDesc
-    let o = aipsio_objects::open(
+    let o = aipsio::objects::open(
         s,
         head.next,
         9,
@@ -111,24 +88,24 @@ pub fn describe(s: &[u8]) -> Description
         2,
     );
     let n = read_desc_head(s, o.next);
-    let cs = column_desc::read_columns(s, n.next, n.count);
-    let e = aipsio_objects::close(cs.next, head.next);
-    let set = data_managers::read_head(s, e, head.rows);
-    let ms = data_managers::read_managers(s, set.next, set.count, set.highest);
+    let cs = table_column_desc::columns::read_columns(s, n.next, n.count);
+    let e = aipsio::objects::close(cs.next, head.next);
+    let set = table_column_set::data_managers::read_head(s, e, head.rows);
+    let ms = table_column_set::data_managers::read_managers(s, set.next, set.count, set.highest);
     let numbers = ms.numbers;
     let ours = ms.ours;
     let arrays = cs.arrays;
-    let os = column_info::read_owners(s, ms.next, arrays, n.count, numbers, set.count);
+    let os = table_column_set::info::read_owners(s, ms.next, arrays, n.count, numbers, set.count);
     let counts = os.counts;
-    let is = column_set::read_infos(s, os.next, ours, counts, set.count);
-    let d = aipsio_objects::close(is.next, m);
+    let is = table_column_set::bindings::read_infos(s, os.next, ours, counts, set.count);
+    let d = aipsio::objects::close(is.next, m);
     let refused = d.refused;
     if refused != 0 {
         return refuse(refused);
     }
     let owners = os.owners;
     let starts = is.starts;
-    let bindings = column_set::bind(s, owners, counts, ours, starts, n.count);
+    let bindings = table_column_set::bindings::bind(s, owners, counts, ours, starts, n.count);
     let columns = cs.columns;
     let managers = ms.managers;
     Description {

@@ -11,7 +11,7 @@ use Rattle.lookup_rules.specs.declared.Answer.{Answer}
 use Rattle.lookup_rules.specs.declared.Placed.{Placed}
 use Rattle.lookup_rules.specs.declared.Placed.the-variants.{At, Refused}
 use Rattle.lookup_rules.specs.Questions.{answerOf, roomAfter, placedOf}
-use Rattle.lookup_rules.specs.Demand.{question, bitsOf}
+use Rattle.lookup_rules.specs.Demand.{question, answerBits}
 use Rattle.lookup_rules.proofs.Places.{places}
 use Rattle.lookup_rules.proofs.IncrementalPlaces.{places-there}
 use Rattle.two_places.specs.Demand.{Demanded, PlacedThere}
@@ -45,7 +45,7 @@ module _ (a : Answer) (first count : ℕ) (h : placedOf a ≡ At first count) wh
   unfolding placedOf
   at-place = rw (eq-eqb (a .refused) 0 unrefused) at h
 
-  same-bits : bitsOf a ≡ record { first = first; count = count }
+  same-bits : answerBits a ≡ record { first = first; count = count }
   same-bits = rw (ap firstOf at-place, ap countOf at-place)
 
 pub carried : (t f : List ℕ) (l l′ row row′ : ℕ) (a a′ : Asked) {p p′ : Placed}

@@ -3,9 +3,9 @@
 use Prim.Native.Nat.{ℕ}
 use mathlib.Core.Path.{_≡_}
 use mathlib.Core.List.{List}
-use Rattle.table.specs.Table.{describedAs}
-use Rattle.cell_map.specs.Demand.{Demand3}
-use Rattle.standard_rules.specs.Rules.{mapOf}
+use Rattle.table_rules.specs.Table.{describedAs}
+use Rattle.standard_rules.specs.Demand.{Demand3}
+use Rattle.standard_rules.specs.Map.{mapOf}
 use Rattle.lookup_rules.specs.declared.Asked.{Asked}
 use Rattle.lookup_rules.specs.declared.Placed.{Placed}
 use Rattle.lookup_rules.specs.declared.Placed.the-variants.{At}

@@ -4,7 +4,7 @@ ghost use mathlib.Core.Path.{_≡_};
 ghost use lib.ListN.{length};
 ghost use Rattle.lookup_rules.specs.Questions.{answerOf, roomAfter, placedOf};
 ghost use Rattle.lookup_rules.specs.Demand.{question};
-ghost use Rattle.two_places.specs.Demand.{Demanded, PlacedThere};
+ghost use Rattle.two_places.specs.Demand.{PlacedThere, Demanded};
 use lookup_rules::Asked;
 use lookup_rules::Placed;
 

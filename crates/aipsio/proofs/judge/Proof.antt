@@ -1,8 +1,8 @@
 -- `aipsio::judge` meets its contract: its branches are the definition's cases.
 use mathlib.Core.Path.{sym, _∙_}
 use Rattle.bytes_at.proofs.Stepped.{free}
-use Rattle.aipsio.proofs.Kept.{judged-keeps}
-use Rattle.aipsio.proofs.Sides.{judge-on, judge-refused}
+use Rattle.aipsio_rules.proofs.Kept.{judged-keeps}
+use Rattle.aipsio_rules.proofs.Sides.{judge-on, judge-refused}
 use Rattle.aipsio.proofs.judge.Statement.{statement}
 use Rattle.aipsio.proofs.judge.Tie as tie
 

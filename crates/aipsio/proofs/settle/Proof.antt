@@ -1,8 +1,8 @@
 -- `aipsio::settle` meets its contract: its branches are the definition's cases.
 use mathlib.Core.Path.{sym}
 use borrow.Author.Needs.{needs}
-use Rattle.aipsio.proofs.Kept.{settled-none}
-use Rattle.aipsio.proofs.Sides.{settle-on}
+use Rattle.aipsio_rules.proofs.Kept.{settled-none}
+use Rattle.aipsio_rules.proofs.Sides.{settle-on}
 use Rattle.aipsio.proofs.settle.Statement.{statement}
 use Rattle.aipsio.proofs.settle.Tie as tie
 

@@ -2,8 +2,8 @@
 use mathlib.Core.Path.{sym, _∙_}
 use borrow.Author.Needs.{needs}
 use Rattle.bytes_at.proofs.Stepped.{free}
-use Rattle.aipsio.proofs.Kept.{skipped-keeps}
-use Rattle.aipsio.proofs.Sides.{skip-on, skip-refused}
+use Rattle.aipsio_rules.proofs.Kept.{skipped-keeps}
+use Rattle.aipsio_rules.proofs.Sides.{skip-on, skip-refused}
 use Rattle.aipsio.proofs.skip.Statement.{statement}
 use Rattle.aipsio.proofs.skip.Tie as tie
 

@@ -4,9 +4,9 @@ use native.Mathlib.Nat.{div-mul-le-self}
 use native.Mathlib.Omega.{arith}
 use borrow.Author.Needs.{needs}
 use Rattle.bytes_at.proofs.Stepped.{free}
-use Rattle.aipsio.proofs.Kept.{each-keeps}
-use Rattle.aipsio.proofs.Sides.{each-on, each-refused}
-use Rattle.aipsio.proofs.Accepted.{room-for}
+use Rattle.aipsio_rules.proofs.Kept.{each-keeps}
+use Rattle.aipsio_rules.proofs.Sides.{each-on, each-refused}
+use Rattle.aipsio_rules.proofs.Accepted.{room-for}
 use Rattle.aipsio.proofs.skip_each.Statement.{statement}
 use Rattle.aipsio.proofs.skip_each.Tie as tie
 

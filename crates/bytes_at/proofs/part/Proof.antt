@@ -1,7 +1,7 @@
 use denote.Ref.{now}
-use Rattle.bytes_at.proofs.Parts.{no-part, short-part}
 use native.Mathlib.Nat.{add-sub-cancel-left}
 use borrow.Author.Needs.{needs}
+use Rattle.bytes_at.proofs.Parts.{no-part, short-part}
 use Rattle.bytes_at.proofs.part.Statement.{statement}
 use Rattle.bytes_at.proofs.part.Tie as tie
 

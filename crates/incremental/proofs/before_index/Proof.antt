@@ -3,7 +3,7 @@ use borrow.Author.Needs.{needs}
 use borrow.Author.Tests.{eq-eqb, ne-eqb, not-true, not-false}
 use mathlib.Core.Path.{sym, _∙_}
 use Rattle.bytes_at.specs.Stages.{_▷_, orNo}
-use Rattle.incremental.specs.Incremental.{beforeIndex}
+use Rattle.incremental.specs.Check.{beforeIndex}
 use Rattle.incremental.proofs.before_index.Statement.{statement}
 use Rattle.incremental.proofs.before_index.Tie as tie
 

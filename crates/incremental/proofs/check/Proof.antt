@@ -4,7 +4,7 @@ use borrow.Author.Tests.{not-true, not-false}
 use mathlib.Core.Path.{sym, _∙_}
 use native.Mathlib.Omega.{arith}
 use Rattle.bytes_at.proofs.Stepped.{free}
-use Rattle.manager_file.proofs.Area.{area-most}
+use Rattle.buckets.proofs.file.Area.{area-most}
 use Rattle.incremental.proofs.Checking.{area-passed, buckets-inside, out-first, out-index, out-free, out-map, out-bucket, accepted}
 use Rattle.incremental.proofs.check.Statement.{statement}
 use Rattle.incremental.proofs.check.Tie as tie

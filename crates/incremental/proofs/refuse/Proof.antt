@@ -1,6 +1,6 @@
 -- `incremental::refuse` meets its contract: the number and zeros.
 use mathlib.Core.Path.{refl}
-use Rattle.incremental.specs.Incremental.{refusedFile}
+use Rattle.incremental.specs.Check.{refusedFile}
 use Rattle.incremental.proofs.refuse.Statement.{statement}
 use Rattle.incremental.proofs.refuse.Tie as tie
 

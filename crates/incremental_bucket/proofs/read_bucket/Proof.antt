@@ -3,8 +3,8 @@ use native.Mathlib.Omega.{arith}
 use borrow.Author.Needs.{needs}
 use denote.Ref.{now}
 use Rattle.bytes_at.proofs.Stepped.{via, free}
-use Rattle.aipsio.proofs.Bounds.{at-most}
-use Rattle.incremental_bucket.specs.Bucket.{bucketAt}
+use Rattle.aipsio_rules.proofs.Bounds.{at-most}
+use Rattle.incremental_rules.specs.Bucket.{bucketAt}
 use Rattle.incremental_bucket.proofs.Bounds.{bucket-le}
 use Rattle.incremental_bucket.proofs.Ends.{data-of-end}
 use Rattle.incremental_bucket.proofs.read_bucket.Statement.{statement}

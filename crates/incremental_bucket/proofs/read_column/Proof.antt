@@ -2,7 +2,7 @@
 use mathlib.Core.Path.{refl, ap, _∙_}
 use native.Mathlib.Omega.{arith}
 use Rattle.bytes_at.proofs.Stepped.{free}
-use Rattle.aipsio.specs.declared.Value.{Value}
+use Rattle.aipsio_rules.specs.declared.Value.{Value}
 use Rattle.incremental_bucket.proofs.Heads.{column-kept, column-short, column-none, column-on}
 use Rattle.incremental_bucket.proofs.read_column.Statement.{statement}
 use Rattle.incremental_bucket.proofs.read_column.Tie as tie

@@ -3,11 +3,11 @@ use Prim.Native.Nat.{_-_, _≤_}
 use mathlib.Core.Path.{_≡_, refl, _∙_}
 use native.Mathlib.Omega.{arith}
 use borrow.Author.Needs.{needs}
-use Rattle.bytes_at.specs.Loop.{after}
+use Rattle.bytes_at.specs.Steps.{after}
 use Rattle.bytes_at.proofs.Loops.{after-none, after-more, after-all}
 use Rattle.bytes_at.proofs.Stepped.{via, free}
-use Rattle.aipsio.specs.declared.Value.{Value}
-use Rattle.incremental_bucket.specs.Bucket.{columnInto, columnsAt}
+use Rattle.aipsio_rules.specs.declared.Value.{Value}
+use Rattle.incremental_rules.specs.Bucket.{columnPartInto, columnPartsAt}
 use Rattle.incremental_bucket.proofs.read_columns.Statement.{statement}
 use Rattle.incremental_bucket.proofs.read_columns.Tie as tie
 
@@ -15,7 +15,7 @@ abbrev Inv-loop : tie.InvT-loop
 Inv-loop s limit rows row column bytes n offset₀ next₀ k₀ offset next k =
     (k ≤ n)
     × (next .end ≡ next₀ .end)
-    × (_≡_ {A = Value} (record { value = offset; next = next }) (after (columnInto s limit rows row column bytes) (record { value = 0; next = next₀ }) k))
+    × (_≡_ {A = Value} (record { value = offset; next = next }) (after (columnPartInto s limit rows row column bytes) (record { value = 0; next = next₀ }) k))
 
 abbrev μ-loop : tie.MeasureT-loop
 μ-loop s limit rows row column bytes n offset₀ next₀ k₀ offset next k = n - k
@@ -24,7 +24,7 @@ read-column-requires : tie.Need-read-column-requires Inv-loop μ-loop
 read-column-requires c κs = omega (arith, c .before .before .loop .inv .1, c .before .before .before .before .pre .1)
 
 loop-again : tie.Need-loop-again Inv-loop μ-loop
-unfolding columnInto
+unfolding columnPartInto
 loop-again c = (
   omega arith,
   c .before .before .read-column .ensures .1 ∙ c .before .before .before .before .before .loop .inv .1,
@@ -35,7 +35,7 @@ loop-again c = (
 )
 
 returns : tie.Need-returns Inv-loop μ-loop
-unfolding columnsAt
+unfolding columnPartsAt
 returns c = after-all _ _ _ _ (c .before .loop .inv .2) (omega arith) (omega arith)
 
 pub read-columns-spec : {M : Type 1} → statement M

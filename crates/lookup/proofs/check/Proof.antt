@@ -1,7 +1,7 @@
 -- `lookup::check` meets its contract.
 use borrow.Author.Needs.{needs}
-use Rattle.bytes_at.proofs.Stepped.{free}
 use mathlib.Core.Path.{ap, _∙_}
+use Rattle.bytes_at.proofs.Stepped.{free}
 use Rattle.lookup_rules.specs.Questions.{verdictOf}
 use Rattle.lookup.proofs.check.Statement.{statement}
 use Rattle.lookup.proofs.check.Tie as tie

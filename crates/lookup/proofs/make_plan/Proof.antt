@@ -1,7 +1,7 @@
 -- `lookup::make_plan` meets its contract.
 use borrow.Author.Needs.{needs}
-use Rattle.bytes_at.proofs.Stepped.{free}
 use mathlib.Core.Path.{ap, _∙_}
+use Rattle.bytes_at.proofs.Stepped.{free}
 use Rattle.lookup_rules.specs.Questions.{planOf}
 use Rattle.lookup.proofs.make_plan.Statement.{statement}
 use Rattle.lookup.proofs.make_plan.Tie as tie

@@ -1,7 +1,7 @@
 -- `lookup::place_planned` meets its contract.
 use borrow.Author.Needs.{needs}
-use Rattle.bytes_at.proofs.Stepped.{free}
 use mathlib.Core.Path.{ap, _∙_}
+use Rattle.bytes_at.proofs.Stepped.{free}
 use Rattle.lookup_rules.specs.Questions.{placedOf}
 use Rattle.lookup.proofs.place_planned.Statement.{statement}
 use Rattle.lookup.proofs.place_planned.Tie as tie

@@ -1,7 +1,7 @@
 -- `lookup::view_planned_refusal` meets its contract.
 use borrow.Author.Needs.{needs}
-use Rattle.bytes_at.proofs.Stepped.{free}
 use mathlib.Core.Path.{ap}
+use Rattle.bytes_at.proofs.Stepped.{free}
 use Rattle.lookup_rules.specs.declared.Answer.{Answer}
 use Rattle.lookup.proofs.view_planned_refusal.Statement.{statement}
 use Rattle.lookup.proofs.view_planned_refusal.Tie as tie

@@ -3,8 +3,8 @@ use Prim.Native.Nat.{_-_}
 use native.Mathlib.Omega.{arith}
 use borrow.Author.Needs.{needs}
 use Rattle.bytes_at.proofs.Stepped.{free}
-use Rattle.column_desc.specs.ColumnDesc.{blank}
-use Rattle.column_set.specs.ColumnSet.{noBinding}
+use Rattle.table_rules.specs.ColumnDesc.{noColumn}
+use Rattle.table_rules.specs.ColumnSet.{noBinding}
 use Rattle.lookup_stages.proofs.Gathering.{Gathering, gathering-start, gathering-again, offsets-low, bits-low, given}
 use Rattle.lookup_stages.proofs.Laws.{taken, reached-there, reached-here, no-text, room-text}
 use Rattle.lookup_stages.proofs.stages.Statement.{statement}
@@ -18,7 +18,7 @@ abbrev μ-loop : tie.MeasureT-loop
 μ-loop table file q room d position at g n sequence kept₀ owners₀ offsets₀ bits₀ i₀ kept owners offsets bits i = n - i
 
 returns : tie.Need-returns Inv-loop μ-loop
-unfolding blank noBinding
+unfolding noColumn noBinding
 returns c = (
   (
     c .finish .ensures .0 .0 _ _ _ (reached-there _ _ (c .before .before .before .before .before .before .before .before .before .before .before .before .before .describe .ensures .0) _ _ (c .before .before .before .before .before .find-target .ensures _ (taken _ _ (c .before .before .before .before .before .before .before .before .before .before .before .before .before .describe .ensures .0) (c .before .before .before .before .before .before .before .before .before .before .before .before .position-of .ensures) (c .before .before .before .before .before .before .before .before .before .before .before .place-of .ensures .1) (c .before .before .before .before .before .before .before .before .column-if .ensures) (c .before .before .before .before .before .before .before .binding-if .ensures))) (c .before .before .before .before .if1 .taken) (c .before .before .before .row-of .ensures) (c .before .before .check .ensures) (c .before .no-set .ensures)),
@@ -28,14 +28,14 @@ returns c = (
 )
 
 loop-again : tie.Need-loop-again Inv-loop μ-loop
-unfolding blank noBinding
+unfolding noColumn noBinding
 loop-again c = gathering-again _ _ _ (c .before .before .before .before .before .before .before .loop .inv) (omega arith) (search needs) (search needs)
 
 check-requires-2 : tie.Need-check-requires-2 Inv-loop μ-loop
 check-requires-2 c κs = (c .before .before .before .before .before .before .before .before .loop .inv .few, (offsets-low _ _ _ (c .before .before .before .before .before .before .before .before .loop .inv) (omega arith), bits-low _ _ _ (c .before .before .before .before .before .before .before .before .loop .inv) (omega arith)))
 
 returns-2 : tie.Need-returns-2 Inv-loop μ-loop
-unfolding blank noBinding
+unfolding noColumn noBinding
 returns-2 c = (
   (
     c .finish2 .ensures .0 .0 _ _ _ (reached-here _ _ (c .before .before .before .before .before .before .before .before .before .before .before .before .before .before .before .before .before .before .before .before .before .before .before .describe .ensures .0) _ _ (c .before .before .before .before .before .before .before .before .before .before .before .before .before .before .before .find-target .ensures _ (taken _ _ (c .before .before .before .before .before .before .before .before .before .before .before .before .before .before .before .before .before .before .before .before .before .before .before .describe .ensures .0) (c .before .before .before .before .before .before .before .before .before .before .before .before .before .before .before .before .before .before .before .before .before .before .position-of .ensures) (c .before .before .before .before .before .before .before .before .before .before .before .before .before .before .before .before .before .before .before .before .before .place-of .ensures .1) (c .before .before .before .before .before .before .before .before .before .before .before .before .before .before .before .before .before .before .column-if .ensures) (c .before .before .before .before .before .before .before .before .before .before .before .before .before .before .before .before .before .binding-if .ensures))) (c .before .before .before .before .before .before .before .before .before .before .before .before .before .before .if1 .left) (c .before .before .before .before .check2 .ensures .0 _ _ (given _ _ (c .before .before .before .before .before .before .before .before .before .before .before .before .before .loop .inv) (c .before .before .before .before .before .before .before .before .before .before .before .before .loop-test .left)))),

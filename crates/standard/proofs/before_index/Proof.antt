@@ -3,7 +3,7 @@ use borrow.Author.Needs.{needs}
 use borrow.Author.Tests.{eq-eqb, ne-eqb, le-leb, lt-leb, not-true, not-false}
 use mathlib.Core.Path.{sym, _∙_}
 use Rattle.bytes_at.specs.Stages.{_▷_, orNo}
-use Rattle.standard.specs.Standard.{beforeIndex}
+use Rattle.standard.specs.Check.{beforeIndex}
 use Rattle.standard.proofs.before_index.Statement.{statement}
 use Rattle.standard.proofs.before_index.Tie as tie
 

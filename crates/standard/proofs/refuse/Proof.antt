@@ -1,6 +1,6 @@
 -- `standard::refuse` meets its contract: the number and zeros.
 use Rattle.bytes_at.proofs.Stepped.{free}
-use Rattle.standard.specs.Standard.{refusedFile}
+use Rattle.standard.specs.Check.{refusedFile}
 use Rattle.standard.proofs.refuse.Statement.{statement}
 use Rattle.standard.proofs.refuse.Tie as tie
 

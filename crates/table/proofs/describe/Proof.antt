@@ -3,7 +3,7 @@ use borrow.Author.Needs.{needs}
 use borrow.Author.Tests.{eq-eqb, ne-eqb}
 use mathlib.Core.Path.{refl}
 use Rattle.bytes_at.proofs.Stepped.{via, free}
-use Rattle.table.specs.Table.{describedAs}
+use Rattle.table_rules.specs.Table.{describedAs}
 use Rattle.table.proofs.Bounds.{refused-bounded}
 use Rattle.table.proofs.describe.Statement.{statement}
 use Rattle.table.proofs.describe.Tie as tie

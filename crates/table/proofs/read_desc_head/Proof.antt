@@ -1,12 +1,12 @@
 -- `table::read_desc_head` meets its contract: its calls compose as the definition says.
 use mathlib.Core.Path.{refl}
 use Rattle.bytes_at.proofs.Stepped.{via, free}
-use Rattle.table.specs.Table.{descHeadAt}
+use Rattle.table_rules.specs.Table.{tableDescHeadAt}
 use Rattle.table.proofs.read_desc_head.Statement.{statement}
 use Rattle.table.proofs.read_desc_head.Tie as tie
 
 returns : tie.Need-returns
-unfolding descHeadAt
+unfolding tableDescHeadAt
 returns c = (
   via _ (c .before .before .before .before .before .before .string .ensures .0) (
       via _ (c .before .before .before .before .before .string2 .ensures .0) (

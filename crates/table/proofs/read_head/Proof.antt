@@ -2,12 +2,12 @@
 use borrow.Author.Needs.{needs}
 use mathlib.Core.Path.{refl}
 use Rattle.bytes_at.proofs.Stepped.{via, free}
-use Rattle.table.specs.Table.{headAt}
+use Rattle.table_rules.specs.Table.{tableHeadAt}
 use Rattle.table.proofs.read_head.Statement.{statement}
 use Rattle.table.proofs.read_head.Tie as tie
 
 returns : tie.Need-returns
-unfolding headAt
+unfolding tableHeadAt
 returns c =
     via _ (c .before .before .before .before .number .ensures .0) (
     via _ (c .before .before .before .code .ensures .0) (

@@ -1,8 +1,0 @@
--- `aipsio_numbers::flag` meets its contract: a number above the range is refused, and 0.
-use Rattle.bytes_at.proofs.Stepped.{free}
-use Rattle.aipsio.proofs.Bounds.{at-most, ranged-le}
-use Rattle.aipsio_numbers.proofs.flag.Statement.{statement}
-use Rattle.aipsio_numbers.proofs.flag.Tie as tie
-
-pub flag-spec : {M : Type 1} → statement M
-flag-spec = tie.close (tie.spec free (λ c. at-most (ranged-le _ _ _ _ _ 4) (c .ranged .ensures)))

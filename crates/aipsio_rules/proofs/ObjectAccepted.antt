@@ -1,0 +1,78 @@
+-- What an unrefused cursor says of the step into or out of an object that led to it: which tests were passed, and what the step
+-- gave (`-is`).
+-- Assumes nothing.
+use mathlib.Core.Path.{_≡_, refl, sym, ap}
+use mathlib.Core.List.{List}
+use Prim.Native.Nat.{ℕ, _+_, _*_, _≤_, _<_}
+use native.Mathlib.Omega.{arith}
+use lib.Dec.{leb, eqb}
+use borrow.Author.Tests.{leb-true, eqb-true, eq-eqb}
+use Rattle.bytes_at.specs.Bytes.{bytes}
+use Rattle.bytes_at.specs.Steps.{_>>=_}
+use Rattle.aipsio_rules.specs.declared.Cursor.{Cursor}
+use Rattle.aipsio_rules.specs.Field.{refusedAt, leftIn, skippedEach, settled, uintAt, rangedAt, agreed, nameAt}
+use Rattle.aipsio_rules.proofs.Kept.{Clean, clean-before, name-keeps, ranged-reads, agreed-keeps, _⨟_}
+use Rattle.aipsio_rules.proofs.Accepted.{latched-clean, passed-test, not-zero, each-fits, each-is, sized-fits, uint-is, agreed-is}
+use Rattle.aipsio_rules.specs.Object.{entered, opened, closed, passed, blockAt}
+use Rattle.aipsio_rules.proofs.ObjectKept.{passed-keeps}
+use Rattle.aipsio_rules.proofs.ObjectSides.{enter-on, close-on, pass-on}
+
+-- the object ends in its container, and not before its header
+module _ (c outer : Cursor) (len : ℕ) (e : Clean (entered c outer len)) where
+  pub entered-fits : (Clean c) × (len ≤ leftIn outer) × (c .at ≤ outer .at + len)
+  unfolding entered
+  entered-fits =
+      let l = latched-clean c _ e in
+      let f = passed-test (leb len (leftIn outer)) _ (refusedAt c (outer .at) 1) (not-zero 0) (l .1) in
+      let g = passed-test (leb (c .at) (outer .at + len)) _ (refusedAt c (outer .at) 7) (not-zero 6) (f .1) in
+      (l .0, leb-true len (leftIn outer) (f .0), leb-true (c .at) (outer .at + len) (g .0))
+
+  pub entered-is : entered c outer len ≡ record { at = c .at; end = outer .at + len; big = c .big; refused = 0 }
+  entered-is = sym (enter-on c (entered-fits .0) outer refl len (entered-fits .1) (entered-fits .2))
+
+-- the last field ends where the object does
+module _ (c outer : Cursor) where
+  pub closed-full : Clean (closed c outer) → (Clean c) × (c .at ≡ c .end)
+  unfolding closed
+  closed-full e =
+      let l = latched-clean c _ e in
+      (l .0, eqb-true (c .at) (c .end) (passed-test (eqb (c .at) (c .end)) _ (refusedAt c (outer .at) 7) (not-zero 6) (l .1) .0))
+
+  pub closed-is : Clean (closed c outer) → closed c outer ≡ record { at = c .at; end = outer .end; big = c .big; refused = 0 }
+  closed-is e = let f = closed-full e in sym (close-on c (f .0) outer (f .1))
+
+  pub passed-is : Clean (passed c outer) → passed c outer ≡ record { at = c .end; end = outer .end; big = c .big; refused = 0 }
+  passed-is e = sym (pass-on c (clean-before (passed-keeps c outer) e) outer)
+
+-- an object, whose fields begin at o, in its container c
+pub record Inside (c o : Cursor) : Type 0 where
+  pub clean : Clean c
+  pub room : c .at < c .end
+  pub ends : o .at ≤ o .end
+  pub within : o .end ≤ c .end
+
+module _ (s : List ℕ) (c : Cursor) (expected : List ℕ) (low high : ℕ) (e : Clean (opened s c expected low high .next)) where
+  pub opened-inside : Inside c (opened s c expected low high .next)
+  unfolding opened settled _>>=_
+  opened-inside =
+      let len = uintAt s c in
+      let v = rangedAt s (nameAt s (len .next) expected) 4 low high 3 in
+      let f = entered-fits (v .next) c (len .value) e in
+      let h : Clean (uintAt s c .next) = clean-before (name-keeps s _ expected ⨟ ranged-reads s _ 4 low high 3 .keeps) (f .0) in
+      let g = sized-fits s c 4 (rw (uint-is s c) at h) in
+      rw (entered-is (v .next) c (len .value) e)
+      (record { clean = g .0; room = omega arith; ends = f .2; within = omega arith })
+
+-- the elements of a Block lie in its container
+pub block-inside : (s : List ℕ) (c : Cursor) (n size : ℕ) → Clean (blockAt s c n size .next) → blockAt s c n size .value + n * size ≤ c .end
+unfolding blockAt settled _>>=_
+block-inside s c n size e =
+    let o = opened s c (bytes "Block") 1 1 .next in
+    let k = agreed s o n in
+    let d = skippedEach k n size in
+    let f = closed-full d c e in
+    let g = each-fits k n size (f .0) in
+    let p : k .at + n * size ≡ k .end = rw (each-is k n size (f .0)) at (f .1) in
+    let q : k .end ≡ o .end = ap (λ (x : Cursor). x .end) (agreed-is s o n (g .0)) in
+    let i = opened-inside s c (bytes "Block") 1 1 (clean-before (agreed-keeps s o n) (g .0)) in
+    rw (eq-eqb (closed d c .refused) 0 e) (omega (arith, i .within))

@@ -1,0 +1,69 @@
+-- What the functions for C give and write.
+use Prim.Native.Nat.{ℕ}
+use mathlib.Core.List.{List, [], _∷_}
+use mathlib.Core.Bool.{cond}
+use lib.ListN.{length, getD}
+use lib.Seq.{paste}
+use lib.Dec.{eqb, ltb}
+use Rattle.table_rules.specs.declared.Column.{Column}
+use Rattle.table_rules.specs.ColumnDesc.{noColumn}
+use Rattle.table_rules.specs.declared.Binding.{Binding}
+use Rattle.table_rules.specs.declared.Manager.{Manager}
+use Rattle.table_rules.specs.ColumnSet.{noManager, noBinding}
+use Rattle.table_rules.specs.declared.Description.{Description}
+use Rattle.table_rules.specs.declared.Position.{Position}
+use Rattle.table_rules.specs.declared.Position.the-variants.{At, Refused}
+use Rattle.c_numbers.specs.Numbers.{flagOf, oneColumn, oneManager}
+
+-- the number given: 255 where `out` is too short for the values
+unfoldable pub orShort : List ℕ → List ℕ → ℕ → ℕ
+orShort values out number = cond (ltb (length out) (length values)) 255 number
+
+-- `out` afterwards: the values written over its first numbers, or nothing written where it is too short
+unfoldable pub written : List ℕ → List ℕ → List ℕ
+written values out = cond (ltb (length out) (length values)) out (paste out 0 values (length values))
+
+-- the room afterwards: untouched where `out` is too short for n numbers
+unfoldable pub roomLeft : ℕ → List ℕ → List ℕ → List ℕ → List ℕ
+roomLeft n out before after = cond (ltb (length out) n) before after
+
+-- the refusal so far, or 8 where there is no such position
+unfoldable pub missing : ℕ → ℕ → ℕ → ℕ
+missing refused position count = cond (eqb refused 0) (cond (ltb position count) 0 8) refused
+
+abbrev pub summaryOf : Description → List ℕ
+summaryOf d = d .rows ∷ flagOf (d .big) ∷ d .«column_count» ∷ d .«manager_count» ∷ []
+
+abbrev pub columnRefusal : Description → ℕ → ℕ
+columnRefusal d position = missing (d .refused) position (d .«column_count»)
+
+abbrev pub managerRefusal : Description → ℕ → ℕ
+managerRefusal d index = missing (d .refused) index (d .«manager_count»)
+
+unfoldable pub pickedColumn : List Column → ℕ → ℕ → Column
+pickedColumn columns count position = cond (ltb position count) (getD columns position noColumn) noColumn
+
+unfoldable pub pickedBinding : List Binding → ℕ → ℕ → Binding
+pickedBinding bindings count position = cond (ltb position count) (getD bindings position noBinding) noBinding
+
+unfoldable pub pickedManager : List Manager → ℕ → ℕ → Manager
+pickedManager managers count position = cond (ltb position count) (getD managers position noManager) noManager
+
+abbrev pub columnNumbers : Description → ℕ → List ℕ
+columnNumbers d position =
+    oneColumn (pickedColumn (d .columns) (d .«column_count») position) (pickedBinding (d .bindings) (d .«column_count») position)
+
+abbrev pub managerNumbers : Description → ℕ → List ℕ
+managerNumbers d index = oneManager (pickedManager (d .managers) (d .«manager_count») index)
+
+abbrev pub positionRefusal : Position → ℕ
+positionRefusal (At k) = 0
+positionRefusal (Refused n) = n
+
+abbrev pub positionNumber : Position → ℕ
+positionNumber (At k) = k
+positionNumber (Refused n) = 0
+
+-- what is given for fewer than nine numbers, and for a plan
+unfoldable pub ifNine : {A : Type 0} → List ℕ → A → A → A
+ifNine plan short whole = cond (ltb (length plan) 9) short whole

@@ -1,0 +1,93 @@
+// What C gets and gives: answers as numbers, and a plan from its nine numbers.
+ghost use mathlib.Core.Path.{_≡_};
+ghost use Prim.Native.Nat.{_≤_};
+ghost use Rattle.c_numbers.specs.Answers.{missing, pickedColumn, pickedBinding, pickedManager, orShort, written, positionRefusal, positionNumber};
+use table_rules::Binding;
+use table_rules::Column;
+use table_rules::Manager;
+use table_rules::Position;
+
+// The refusal so far, or 8 where there is no such position.
+pub fn refusal(refused: usize, position: u64, count: usize) -> u64
+    ensures { λ r. ⌜ r ≡ missing refused position count ⌝ }
+{
+    if refused != 0 {
+        return refused as u64;
+    }
+    if position < count as u64 {
+        return 0;
+    }
+    8
+}
+
+// The column at a position; zeros where there is none.
+pub fn pick_column(columns: [Column; 64], count: usize, position: u64) -> Column
+    requires { ⌜ count ≤ 64 ⌝ }
+    ensures { λ r. ⌜ r ≡ pickedColumn columns count position ⌝ }
+{
+    if position < count as u64 {
+        let at = position as usize;
+        let one = columns[at];
+        return one;
+    }
+    table_column_desc::columns::no_column()
+}
+
+// The binding of the column at a position; zeros where there is none.
+pub fn pick_binding(bindings: [Binding; 64], count: usize, position: u64) -> Binding
+    requires { ⌜ count ≤ 64 ⌝ }
+    ensures { λ r. ⌜ r ≡ pickedBinding bindings count position ⌝ }
+{
+    if position < count as u64 {
+        let at = position as usize;
+        let one = bindings[at];
+        return one;
+    }
+    table_column_set::bindings::no_binding()
+}
+
+// The manager at a position; zeros where there is none.
+pub fn pick_manager(managers: [Manager; 16], count: usize, position: u64) -> Manager
+    requires { ⌜ count ≤ 16 ⌝ }
+    ensures { λ r. ⌜ r ≡ pickedManager managers count position ⌝ }
+{
+    if position < count as u64 {
+        let at = position as usize;
+        let one = managers[at];
+        return one;
+    }
+    table_column_set::data_managers::no_manager()
+}
+
+// Writes the values into `out` and gives the number; 255, and nothing is written, where `out` is too short for them.
+pub fn answer(number: u64, values: &[u64], out: &mut [u64]) -> u64
+    ensures { λ r. ⌜ (r ≡ orShort (now (values .entry)) (now (out .entry)) number) × (now (out .exit) ≡ written (now (values .entry)) (now (out .entry))) ⌝ }
+{
+    if out.len() < values.len() {
+        return 255;
+    }
+    let mut i = 0;
+    while i < values.len() {
+        out[i] = values[i];
+        i += 1;
+    }
+    number
+}
+
+pub fn position_refusal(p: Position) -> u64
+    ensures { λ r. ⌜ r ≡ positionRefusal p ⌝ }
+{
+    match p {
+        Position::At(_) => 0,
+        Position::Refused(n) => n as u64,
+    }
+}
+
+pub fn position_number(p: Position) -> u64
+    ensures { λ r. ⌜ r ≡ positionNumber p ⌝ }
+{
+    match p {
+        Position::At(k) => k as u64,
+        Position::Refused(_) => 0,
+    }
+}

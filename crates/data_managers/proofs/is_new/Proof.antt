@@ -1,7 +1,0 @@
--- `data_managers::is_new` meets its contract, on either side of its test.
-use borrow.Author.Tests.{eq-eqb, ne-eqb}
-use Rattle.data_managers.proofs.is_new.Statement.{statement}
-use Rattle.data_managers.proofs.is_new.Tie as tie
-
-pub is-new-spec : {M : Type 1} → statement M
-is-new-spec = tie.close (tie.spec (λ c. rw (eq-eqb _ _ (c .if1 .taken))) (λ c. rw (ne-eqb _ _ (c .if1 .left))))

@@ -1,0 +1,49 @@
+// The index object of an IncrementalStMan file (document 01, "IncrementalStMan"; Note 260, 3.4.3: Bucket Index).
+ghost use mathlib.Core.Path.{_≡_};
+ghost use lib.ListN.{length};
+ghost use Rattle.incremental_rules.specs.Index.{indexed, indexAt};
+ghost use Rattle.incremental.specs.Bounds.{IndexInside};
+use aipsio_rules::Cursor;
+use incremental_rules::Index;
+
+// The index, or zeros and the number where the cursor is refused.
+fn answer_index(c: Cursor, count: usize, firsts: usize, buckets: usize) -> Index
+    ensures { λ r. ⌜ r ≡ indexed c count firsts buckets ⌝ }
+{
+    let refused = c.refused;
+    if refused != 0 {
+        return Index {
+            count: 0,
+            firsts: 0,
+            buckets: 0,
+            refused: refused,
+        };
+    }
+    Index {
+        count: count,
+        firsts: firsts,
+        buckets: buckets,
+        refused: 0,
+    }
+}
+
+// The ISMIndex with its mark, from a place of the file on. Where it is not refused, both its lists lie in the file.
+pub fn read_index(f: &[u8], at: usize) -> Index
+    ensures { λ r. ⌜ r ≡ indexAt (now (f .entry)) at ⌝ }
+    ensures inside { λ r. ⌜ (r .refused ≡ 0 → IndexInside (length (now (f .entry))) 4 r) ⌝ }
+{
+    let start = Cursor {
+        at: at,
+        end: f.len(),
+        big: 1,
+        refused: 0,
+    };
+    let m = aipsio::numbers::mark(f, start);
+    // ISMIndex
+    let o = aipsio::objects::open(f, m, 8, 0x49534d496e646578, 0x49534d496e646578, 1, 1);
+    let n = aipsio::numbers::uint(f, o.next);
+    let firsts = aipsio::objects::block(f, n.next, n.value + 1, 4);
+    let buckets = aipsio::objects::block(f, firsts.next, n.value, 4);
+    let e = aipsio::objects::close(buckets.next, m);
+    answer_index(e, n.value, firsts.value, buckets.value)
+}

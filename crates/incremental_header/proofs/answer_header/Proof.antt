@@ -1,7 +1,0 @@
--- `incremental_header::answer_header` meets its contract, on either side of its test.
-use Rattle.incremental_header.proofs.HeaderLaws.{headed-on, headed-off}
-use Rattle.incremental_header.proofs.answer_header.Statement.{statement}
-use Rattle.incremental_header.proofs.answer_header.Tie as tie
-
-pub answer-header-spec : {M : Type 1} → statement M
-answer-header-spec = tie.close (tie.spec (λ c. headed-off _ _ (c .if1 .taken)) (λ c. headed-on _ _ (c .if1 .left)))

@@ -1,0 +1,64 @@
+-- A header and an index object, read by the definitions; and what faults in them give.
+-- Assumes nothing.
+use mathlib.Core.Path.{_≡_, refl}
+use mathlib.Core.List.{List, [], _∷_, _++_}
+use mathlib.Core.Bool.{true, false}
+use Prim.Native.Nat.{ℕ}
+use lib.ListN.{take, set}
+use Rattle.bytes_at.specs.Number.{bigFrom, uintOf, bigBytes}
+use Rattle.bytes_at.specs.Bytes.{sameBytes}
+use Rattle.bytes_at.specs.Steps.{_>>=_}
+use Rattle.aipsio_rules.specs.Field.{skipped, skippedEach, judged, settled, sizedAt, uintAt, rangedAt, agreed, markAt, textBefore, textAt, nameAt}
+use Rattle.aipsio_rules.specs.Object.{entered, opened, closed, blockAt}
+use Rattle.incremental_rules.specs.Header.{fieldsAt, headed, headerIn, headerAt}
+use Rattle.incremental_rules.specs.Index.{indexed, indexIn, indexAt}
+
+-- the mark and the header object: big endian, 3 buckets of 64 bytes, bucket 2 free
+abbrev pub header : List ℕ
+header =
+    bigBytes 16 0xbebebebe0000003500000010496e6372
+    ++ bigBytes 16 0x656d656e74616c53744d616e00000005
+    ++ bigBytes 16 0x01000000400000000300000001000000
+    ++ bigBytes 9 0x000000000100000002
+
+-- the mark and the index object: rows 0 to 2 in bucket 1, rows 3 to 6 in bucket 0
+abbrev pub object : List ℕ
+object =
+    bigBytes 16 0xbebebebe000000560000000849534d49
+    ++ bigBytes 16 0x6e646578000000010000000200000021
+    ++ bigBytes 16 0x00000005426c6f636b00000001000000
+    ++ bigBytes 16 0x03000000000000000300000007000000
+    ++ bigBytes 16 0x1d00000005426c6f636b000000010000
+    ++ bigBytes 10 0x00020000000100000000
+
+pub header-read : headerAt header true ≡ record { size = 64; count = 3; «free_count» = 1; «first_free» = 2; refused = 0 }
+unfolding bigFrom uintOf sameBytes skipped judged settled sizedAt uintAt rangedAt markAt textBefore textAt nameAt entered opened closed fieldsAt headed headerIn _>>=_
+header-read = refl
+
+-- a file that ends in the header; the mark; version 4; a Bool of 2; the other endianness; a bucket size of 15; an object that is
+-- longer than its fields
+pub header-faults :
+    (headerAt (take 56 header) true .refused ≡ 1)
+    × (headerAt (set header 3 0) true .refused ≡ 2)
+    × (headerAt (set header 31 4) true .refused ≡ 3)
+    × (headerAt (set header 32 2) true .refused ≡ 5)
+    × (headerAt header false .refused ≡ 6)
+    × (headerAt (set header 36 15) true .refused ≡ 4)
+    × (headerAt (set header 7 54 ++ (0 ∷ [])) true .refused ≡ 7)
+unfolding bigFrom uintOf sameBytes skipped judged settled sizedAt uintAt rangedAt markAt textBefore textAt nameAt entered opened closed fieldsAt headed headerIn _>>=_
+header-faults = (refl, refl, refl, refl, refl, refl, refl)
+
+pub index-read : indexAt (object ++ (0 ∷ [])) 0 ≡ record { count = 2; firsts = 49; buckets = 82; refused = 0 }
+unfolding bigFrom uintOf sameBytes skipped skippedEach judged settled sizedAt uintAt rangedAt agreed markAt textBefore textAt nameAt entered opened closed blockAt indexed indexIn _>>=_
+index-read = refl
+
+-- a file that ends in the last Block; a place past its end; version 2; a count that the Blocks do not have; an object that is
+-- longer than its fields
+pub index-faults :
+    (indexAt (take 89 object) 0 .refused ≡ 1)
+    × (indexAt object 91 .refused ≡ 1)
+    × (indexAt (set object 23 2) 0 .refused ≡ 3)
+    × (indexAt (set object 27 3) 0 .refused ≡ 6)
+    × (indexAt (set object 7 87 ++ (0 ∷ [])) 0 .refused ≡ 7)
+unfolding bigFrom uintOf sameBytes skipped skippedEach judged settled sizedAt uintAt rangedAt agreed markAt textBefore textAt nameAt entered opened closed blockAt indexed indexIn _>>=_
+index-faults = (refl, refl, refl, refl, refl)

@@ -1,0 +1,123 @@
+-- Document 01, "IncrementalStMan", and Note 260, 3.4.3, Data Bucket: one bucket. Each step that judges a number also keeps the one
+-- that is asked for, so that the check and the search for a cell are one.
+use Prim.Native.Nat.{ℕ, _+_, _-_}
+use mathlib.Core.Bool.{cond, _&&_, Bool, false}
+use lib.Dec.{eqb, leb, ltb}
+use lib.ListN.{replicate, set, getD}
+use mathlib.Core.List.{List}
+use Rattle.table_rules.specs.declared.Column.{Column}
+use Rattle.standard_rules.specs.Map.{ceil8}
+use Rattle.incremental_rules.specs.declared.Cells.{Cells}
+use Rattle.table_rules.specs.ColumnDesc.{noColumn}
+use Rattle.table_rules.specs.declared.Binding.{Binding}
+use Rattle.table_rules.specs.ColumnSet.{noBinding}
+use Rattle.bytes_at.specs.Steps.{after, _>>=_}
+use Rattle.table_rules.specs.declared.Description.{Description}
+use Rattle.aipsio_rules.specs.declared.Cursor.{Cursor}
+use Rattle.aipsio_rules.specs.declared.Value.{Value}
+use Rattle.aipsio_rules.specs.Field.{skipped, judged, settled, uintAt}
+use Rattle.incremental_rules.specs.declared.Starts.{Starts}
+
+-- "plus the cell's whole bytes"; "For a column of type String, arrays too, the offset alone"
+abbrev pub cellBytes : Column → ℕ
+cellBytes c = cond (eqb (c .datatype .number) 11) 0 (ceil8 (c .bits))
+
+-- no column yet
+abbrev pub noCells : Cells
+noCells = record { bytes = replicate 64 0; count = 0; column = 64 }
+
+-- one column more; where its position is the one asked for, that is noted
+abbrev pub cellMore : Column → ℕ → ℕ → Cells → Cells
+cellMore c k position cells = record {
+  bytes = set (cells .bytes) (cells .count) (cellBytes c);
+  count = cells .count + 1;
+  column = cond (eqb k position) (cells .count) (cells .column);
+}
+
+-- column k of the table, if it is bound to the manager with the sequence number
+unfoldable pub cellInto : List Column → List Binding → ℕ → ℕ → Cells → ℕ → Cells
+cellInto cs bs sequence position cells k =
+    cond (eqb (getD bs k noBinding .sequence) sequence) (cellMore (getD cs k noColumn) k position cells) cells
+
+-- of n columns, those of a file, in table order, and which of them is at the position
+unfoldable pub cellsIn : List Column → List Binding → ℕ → ℕ → ℕ → Cells
+cellsIn cs bs n sequence position = after (cellInto cs bs sequence position) noCells n
+
+abbrev pub cellsOf : Description → ℕ → ℕ → Cells
+cellsOf d sequence position = cellsIn (d .columns) (d .bindings) (d .«column_count») sequence position
+
+-- "A bucket begins with index offset x in the table's endianness, 4 to bucket size, high byte 0 (else 3)": the length of the data
+-- part, x - 4, and the cursor at the index part
+unfoldable pub dataAt : List ℕ → Cursor → ℕ → Value
+dataAt s c size = do
+  x ← uintAt s c
+  d ← judged (x .next) (c .at) (ltb (x .value) 16777216) 3
+  ok ← leb 4 (x .value) && leb (x .value) size
+  e ← judged d (c .at) ok 11
+  len ← x .value - 4
+  n ← skipped e len
+  settled len n
+
+-- "starts from 0, rising strictly, below the bucket's rows": start i, after the last one
+unfoldable pub startFits : ℕ → ℕ → ℕ → ℕ → Bool
+startFits i last v rows = cond (leb rows v) false (cond (eqb i 0) (eqb v 0) (ltb last v))
+
+-- zeros where the cursor is refused
+unfoldable pub started : Cursor → ℕ → ℕ → Starts
+started c last hit =
+    cond (eqb (c .refused) 0) (record { last = last; hit = hit; next = c }) (record { last = 0; hit = 0; next = c })
+
+-- start i, else 11. "The last start not above the local row": `hit` is its number.
+unfoldable pub startInto : List ℕ → ℕ → ℕ → Starts → ℕ → Starts
+startInto s rows row st i = do
+  v ← uintAt s (st .next)
+  ok ← startFits i (st .last) (v .value) rows
+  next ← judged (v .next) (st .next .at) ok 11
+  hit ← cond (leb (v .value) row) i (st .hit)
+  started next (v .value) hit
+
+unfoldable pub startsAt : List ℕ → Cursor → ℕ → ℕ → ℕ → Starts
+startsAt s c n rows row = after (startInto s rows row) (record { last = 0; hit = 0; next = c }) n
+
+-- "each offset, counted from byte 4, plus the cell's whole bytes is at most x - 4": offset i, else 11. That of value `hit` is kept.
+unfoldable pub offsetInto : List ℕ → ℕ → ℕ → ℕ → Value → ℕ → Value
+offsetInto s limit bytes hit st i = do
+  v ← uintAt s (st .next)
+  ok ← leb (v .value + bytes) limit
+  next ← judged (v .next) (st .next .at) ok 11
+  offset ← cond (eqb i hit) (v .value) (st .value)
+  settled offset next
+
+unfoldable pub offsetsAt : List ℕ → Cursor → ℕ → ℕ → ℕ → ℕ → Value
+offsetsAt s c n limit bytes hit = after (offsetInto s limit bytes hit) (record { value = 0; next = c }) n
+
+-- "Per column: at least one value", else 11; their starts; their offsets
+unfoldable pub columnPartAt : List ℕ → Cursor → ℕ → ℕ → ℕ → ℕ → Value
+columnPartAt s c limit rows row bytes = do
+  n ← uintAt s c
+  d ← judged (n .next) (c .at) (ltb 0 (n .value)) 11
+  starts ← startsAt s d (n .value) rows row
+  offsetsAt s (starts .next) (n .value) limit bytes (starts .hit)
+
+-- column k, whose values take the bytes given; the offset in the column that is asked for is kept
+unfoldable pub columnPartInto : List ℕ → ℕ → ℕ → ℕ → ℕ → List ℕ → Value → ℕ → Value
+columnPartInto s limit rows row column bytes st k = do
+  one ← columnPartAt s (st .next) limit rows row (getD bytes k 0)
+  offset ← cond (eqb k column) (one .value) (st .value)
+  record { value = offset; next = one .next }
+
+unfoldable pub columnPartsAt : List ℕ → Cursor → ℕ → ℕ → ℕ → ℕ → List ℕ → ℕ → Value
+columnPartsAt s c limit rows row column bytes n =
+    after (columnPartInto s limit rows row column bytes) (record { value = 0; next = c }) n
+
+-- a cursor's number for the table's endianness
+abbrev pub orderOf : Bool → ℕ
+orderOf big = cond big 1 0
+
+-- The bucket of `size` bytes from a place of the file on, with so many rows and n columns in the table's order: what refuses it,
+-- and the offset of the value that the local row has in the column. "Bucket faults give 1 where the bucket ends, else 11."
+unfoldable pub bucketAt : List ℕ → ℕ → ℕ → Bool → ℕ → ℕ → ℕ → List ℕ → ℕ → Value
+bucketAt f at size big rows row column bytes n = do
+  order ← orderOf big
+  limit ← dataAt f (record { at = at; end = at + size; big = order; refused = 0 }) size
+  columnPartsAt f (limit .next) (limit .value) rows row column bytes n

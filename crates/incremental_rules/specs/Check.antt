@@ -1,0 +1,78 @@
+-- Document 01, "IncrementalStMan": when a file is accepted.
+use Prim.Native.Nat.{ℕ, _+_, _-_, _*_}
+use mathlib.Core.Bool.{cond, Bool, true}
+use lib.Dec.{eqb, leb}
+use mathlib.Core.List.{List}
+use lib.ListN.{length}
+use Rattle.incremental_rules.specs.declared.Found.{Found}
+use Rattle.bytes_at.specs.Stages.{_▷_, orNo}
+use Rattle.bytes_at.specs.Steps.{_>>=_, after}
+use Rattle.standard_rules.specs.Header.{bucketStart}
+use Rattle.bytes_at.specs.Number.{numberIn}
+use Rattle.incremental_rules.specs.declared.Index.{Index}
+use Rattle.incremental_rules.specs.Bucket.{bucketAt, cellsOf}
+use Rattle.incremental_rules.specs.declared.Cells.{Cells}
+use Rattle.table_rules.specs.declared.Description.{Description}
+use Rattle.standard_rules.specs.Index.{freeOk}
+use Rattle.standard_rules.specs.Check.{longEnough}
+use Rattle.incremental_rules.specs.Header.{headerAt}
+use Rattle.incremental_rules.specs.Index.{indexFits, indexOf}
+use Rattle.incremental_rules.specs.declared.Checked.{Checked}
+
+-- zeros and the number where a bucket is refused
+unfoldable pub foundAs : ℕ → ℕ → ℕ → Found
+foundAs refused start offset =
+    cond (eqb refused 0)
+    (record { start = start; offset = offset; refused = 0 })
+    (record { start = 0; offset = 0; refused = refused })
+
+-- bucket i of the index. The row's bucket is the last whose first row is not above it.
+unfoldable pub bucketInto : Bool → List ℕ → ℕ → Index → Cells → ℕ → Found → ℕ → Found
+bucketInto big f size x cells row found i = do
+  b ← numberIn true 4 f (x .buckets) i
+  first ← numberIn true 4 f (x .firsts) i
+  past ← numberIn true 4 f (x .firsts) (i + 1)
+  at ← bucketStart size b
+  rows ← past - first
+  local ← row - first
+  one ← bucketAt f at size big rows local (cells .column) (cells .bytes) (cells .count)
+  start ← cond (leb first row) at (found .start)
+  offset ← cond (leb first row) (one .value) (found .offset)
+  foundAs (found .refused ▷ one .next .refused) start offset
+
+-- nothing found, nothing refused
+abbrev pub nothing : Found
+nothing = record { start = 0; offset = 0; refused = 0 }
+
+-- "buckets in index order"
+unfoldable pub searchOf : Bool → List ℕ → ℕ → Index → Cells → ℕ → Found
+searchOf big f size x cells row = after (bucketInto big f size x cells row) nothing (x .count)
+
+-- "Order: header, length, index object, free chain, bucket numbers and first rows, buckets in index order." `refused` is the
+-- refusal so far. The buckets are refused alike whatever cell is asked for (proofs/AnyCell.antt).
+unfoldable pub refusalOf : Description → ℕ → List ℕ → ℕ → ℕ
+refusalOf d sequence f refused =
+    let h = headerAt f (d .big) in
+    let x = indexOf f h in
+    refused
+    ▷ h .refused
+    ▷ orNo (longEnough (length f) (h .size) (h .count)) 1
+    ▷ x .refused
+    ▷ orNo (freeOk f (h .size) (h .count) (h .«free_count») (h .«first_free»)) 10
+    ▷ orNo (indexFits (d .rows) f h x) 11
+    ▷ searchOf (d .big) f (h .size) x (cellsOf d sequence 0) 0 .refused
+
+-- "each offset, counted from byte 4"
+abbrev pub firstBit : Found → ℕ
+firstBit found = 8 * (found .start + 4 + found .offset)
+
+-- What the check of the manager's file tells, where the cell at a position and a row is asked for; "A refusal carries its number
+-- and zeros". A position without a column of the file, or a row that is not there, has no cell, and gives some number.
+unfoldable pub checkedAs : Description → ℕ → List ℕ → ℕ → ℕ → ℕ → Checked
+checkedAs d sequence f refused position row =
+    let h = headerAt f (d .big) in
+    let found = searchOf (d .big) f (h .size) (indexOf f h) (cellsOf d sequence position) row in
+    let number = refusalOf d sequence f refused in
+    cond (eqb number 0)
+    (record { refused = 0; size = h .size; first = firstBit found })
+    (record { refused = number; size = 0; first = 0 })

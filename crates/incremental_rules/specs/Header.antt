@@ -1,0 +1,50 @@
+-- Document 01, "IncrementalStMan", and Note 260, 3.4.3, Header: its fields in file order.
+use Prim.Native.Nat.{ℕ}
+use mathlib.Core.List.{List}
+use mathlib.Core.Bool.{Bool, cond}
+use lib.Dec.{eqb}
+use lib.ListN.{length}
+use Rattle.bytes_at.specs.Bytes.{bytes}
+use Rattle.bytes_at.specs.Steps.{_>>=_}
+use Rattle.aipsio_rules.specs.declared.Cursor.{Cursor}
+use Rattle.aipsio_rules.specs.Field.{judged, uintAt, numberAt, flagAt, markAt}
+use Rattle.aipsio_rules.specs.Object.{opened, closed}
+use Rattle.standard_rules.specs.Header.{sameEndian, headerRoom}
+use Rattle.incremental_rules.specs.declared.HeaderFields.{HeaderFields}
+use Rattle.incremental_rules.specs.declared.Header.{Header}
+
+-- "Header version 5", "Bool as above" (else 6), "bucket size 16 to 1,048,576", "buckets 0 to 4,096", cache size, unique column
+-- number, number of free buckets, first free bucket; "its line 'columns added' is no field"
+unfoldable pub fieldsAt : List ℕ → Cursor → Bool → HeaderFields
+fieldsAt s c big = do
+  o ← opened s c (bytes "IncrementalStMan") 5 5
+  flag ← flagAt s (o .next)
+  same ← sameEndian (flag .value) big
+  d ← judged (flag .next) (o .next .at) same 6
+  size ← numberAt s d 4 16 1048576
+  count ← numberAt s (size .next) 4 0 4096
+  cache ← uintAt s (count .next)
+  unique ← uintAt s (cache .next)
+  free ← uintAt s (unique .next)
+  first ← uintAt s (free .next)
+  record { size = size .value; count = count .value; «free_count» = free .value; «first_free» = first .value; next = first .next }
+
+-- "A refusal carries its number and zeros."
+unfoldable pub headed : Cursor → HeaderFields → Header
+headed c h =
+    cond (eqb (c .refused) 0)
+    (record { size = h .size; count = h .count; «free_count» = h .«free_count»; «first_free» = h .«first_free»; refused = 0 })
+    (record { size = 0; count = 0; «free_count» = 0; «first_free» = 0; refused = c .refused })
+
+-- the header of a file whose header is in the byte order given (1: big endian), in a table of the endianness given
+unfoldable pub headerIn : List ℕ → ℕ → Bool → Header
+headerIn s order big = do
+  room ← headerRoom (length s)
+  m ← markAt s (record { at = 0; end = room; big = order; refused = 0 })
+  h ← fieldsAt s m big
+  e ← closed (h .next) m
+  headed e h
+
+-- "All big endian."
+abbrev pub headerAt : List ℕ → Bool → Header
+headerAt s big = headerIn s 1 big

@@ -1,0 +1,62 @@
+-- Document 01, "IncrementalStMan", and Note 260, 3.4.3, Bucket Index: the ISMIndex object, and the rule for its numbers.
+use Prim.Native.Nat.{ℕ, _+_}
+use mathlib.Core.Bool.{cond, Bool, _&&_, false, true}
+use lib.Dec.{eqb, ltb}
+use mathlib.Core.List.{List, [], _∷_, _++_}
+use lib.ListN.{length}
+use Rattle.aipsio_rules.specs.declared.Cursor.{Cursor}
+use Rattle.incremental_rules.specs.declared.Index.{Index}
+use Rattle.bytes_at.specs.Bytes.{bytes}
+use Rattle.bytes_at.specs.Steps.{_>>=_}
+use Rattle.aipsio_rules.specs.Field.{uintAt, markAt}
+use Rattle.aipsio_rules.specs.Object.{opened, closed, blockAt}
+use Rattle.standard_rules.specs.Header.{bucketStart}
+use Rattle.incremental_rules.specs.declared.Header.{Header}
+use Rattle.standard_rules.specs.Index.{links}
+use Rattle.bytes_at.specs.Number.{numbersAt}
+use Rattle.bytes_at.specs.Lists.{allApart}
+
+-- "A refusal carries its number and zeros."
+unfoldable pub indexed : Cursor → ℕ → ℕ → ℕ → Index
+indexed c count firsts buckets =
+    cond (eqb (c .refused) 0)
+    (record { count = count; firsts = firsts; buckets = buckets; refused = 0 })
+    (record { count = 0; firsts = 0; buckets = 0; refused = c .refused })
+
+-- "The ISMIndex (version 1, with mark): count n, Block of n + 1 first rows, Block of n bucket numbers (omitted by the note);
+-- Block lengths that differ give 6", from a place on, in the byte order given (1: big endian), with first rows of so many bytes.
+-- What stands after it is not read.
+unfoldable pub indexIn : List ℕ → ℕ → ℕ → ℕ → Index
+indexIn s order each at = do
+  m ← markAt s (record { at = at; end = length s; big = order; refused = 0 })
+  o ← opened s m (bytes "ISMIndex") 1 1
+  n ← uintAt s (o .next)
+  firsts ← blockAt s (n .next) (n .value + 1) each
+  buckets ← blockAt s (firsts .next) (n .value) 4
+  e ← closed (buckets .next) m
+  indexed e (n .value) (firsts .value) (buckets .value)
+
+-- "All big endian"; first rows are uInts
+abbrev pub indexAt : List ℕ → ℕ → Index
+indexAt s at = indexIn s 1 4 at
+
+-- "The ISMIndex stands after the last bucket"
+abbrev pub indexOf : List ℕ → Header → Index
+indexOf f h = indexAt f (bucketStart (h .size) (h .count))
+
+-- "first rows start at 0, rise strictly and end at the row count": those that follow one
+unfoldable pub risesTo : ℕ → ℕ → List ℕ → Bool
+risesTo rows last [] = eqb last rows
+risesTo rows last (x ∷ xs) = let rest = risesTo rows x xs in ltb last x && rest
+
+-- all of them
+unfoldable pub firstsFit : ℕ → List ℕ → Bool
+firstsFit rows [] = false
+firstsFit rows (x ∷ xs) = let rest = risesTo rows x xs in eqb x 0 && rest
+
+-- "bucket numbers are in range, all different, none free", and the rule above. The free buckets are in range and all different
+-- already, since their chain ends.
+unfoldable pub indexFits : ℕ → List ℕ → Header → Index → Bool
+indexFits rows f h x =
+    allApart (h .count) (numbersAt true 4 f (x .buckets) (x .count) ++ links f (h .size) (h .«free_count») (h .«first_free»))
+    && firstsFit rows (numbersAt true 4 f (x .firsts) (x .count + 1))

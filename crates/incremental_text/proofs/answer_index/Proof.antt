@@ -1,7 +1,0 @@
--- `incremental_text::answer_index` meets its contract, on either side of its test.
-use Rattle.incremental_text.proofs.IndexLaws.{indexed-on, indexed-off}
-use Rattle.incremental_text.proofs.answer_index.Statement.{statement}
-use Rattle.incremental_text.proofs.answer_index.Tie as tie
-
-pub answer-index-spec : {M : Type 1} → statement M
-answer-index-spec = tie.close (tie.spec (λ c. indexed-off _ _ _ _ (c .if1 .taken)) (λ c. indexed-on _ _ _ _ (c .if1 .left)))

@@ -1,0 +1,44 @@
+-- How the code finds the cell that a question asks for, by the lent room, and leaves the room.
+use mathlib.Core.Bool.{Bool, _&&_, not, cond}
+use lib.Dec.{eqb}
+use Prim.Native.Nat.{ℕ, _≤_, _<_}
+use mathlib.Core.List.{List}
+use lib.ListN.{length, replicate}
+use Rattle.lookup_rules.specs.declared.Staged.{Staged}
+use Rattle.standard_index.specs.Bounds.{SetInside}
+use Rattle.standard.specs.Bit.{bitByHalving}
+use Rattle.lookup_rules.specs.declared.Question.{Question}
+use Rattle.lookup_rules.specs.Questions.{rowOf, asksCell, answered}
+use Rattle.standard_rules.specs.Place.{Bits}
+use Rattle.lookup_rules.specs.declared.Answer.{Answer}
+
+-- "It is all zero after every refusal and for every IncrementalStMan file"
+abbrev pub keepsText : Staged → Bool
+keepsText s = eqb (s .refused) 0 && not (s .incremental)
+
+unfoldable pub roomSettled : Bool → List ℕ → List ℕ
+roomSettled keep room = cond keep room (replicate (length room) 0)
+
+-- The index text in the room has the column's set, and no sum of a place wraps.
+pub record Findable (text : List ℕ) (s : Staged) (row : ℕ) : Type 0 where
+  pub inside : SetInside (length text) 4 (s .set)
+  pub some : 0 < s .set .entries
+  pub size-most : s .plan .size ≤ 1048576
+  pub offset-most : s .plan .offset < 4294967296
+  pub bits-most : s .plan .bits ≤ 4294967296
+  pub row-most : row ≤ 2147483647
+
+-- the first bit of the cell, 0 where none is asked for or the question is refused
+unfoldable pub cellBit : List ℕ → Staged → Question → ℕ
+cellBit text s q =
+    let there = s .first in
+    let here = bitByHalving text (s .set) (s .plan .size) (s .plan .offset) (s .plan .bits) (rowOf q) in
+    let cell = cond (s .incremental) there here in
+    cond (eqb (s .refused) 0 && asksCell q) cell 0
+
+-- the answer with a first bit
+unfoldable pub answerWith : Staged → Question → ℕ → Answer
+answerWith s q first =
+    let cell : Bits = record { first = first; count = s .plan .bits } in
+    let none : Bits = record { first = 0; count = 0 } in
+    answered s (cond (asksCell q) cell none)

@@ -1,0 +1,18 @@
+// Every question over a table and a data file (document 01, "The questions"), answered by one function, which alone clears the
+// room.
+ghost use mathlib.Core.Path.{_≡_};
+ghost use lib.ListN.{length};
+ghost use Rattle.lookup_rules.specs.Questions.{answerOf, roomAfter};
+use lookup_rules::Answer;
+use lookup_rules::Question;
+
+// Every question: the answer, and the room as it is left.
+pub fn ask(table: &[u8], file: &[u8], q: Question, room: &mut [u8]) -> Answer
+    ensures { λ r. ⌜ (r ≡ answerOf (now (table .entry)) (now (file .entry)) q (length (now (room .entry)))) × (now (room .exit) ≡ roomAfter (now (table .entry)) (now (file .entry)) q (length (now (room .entry)))) ⌝ }
+{
+    let s = lookup_stages::stages(table, file, q, room);
+    let first = crate::answer::cell_bit(room, s, q);
+    let keep = crate::answer::keeps_text(s);
+    crate::answer::settle(keep, room);
+    crate::answer::answer(s, q, first)
+}

@@ -1,0 +1,65 @@
+// An answer as the type of its question: a verdict, a plan, a place, or a part of the file (document 01, "The questions").
+ghost use mathlib.Core.Path.{_≡_};
+ghost use Prim.Native.Nat.{_+_, _/_};
+ghost use lib.ListN.{length, take, drop};
+ghost use denote.Ref.{ptr};
+ghost use Rattle.lookup_rules.specs.Questions.{verdictOf, planOf, placedOf, viewOf};
+use lookup_rules::Answer;
+use lookup_rules::Placed;
+use lookup_rules::Planned;
+use lookup_rules::Verdict;
+
+pub fn verdict(a: Answer) -> Verdict
+    ensures { λ r. ⌜ r ≡ verdictOf a ⌝ }
+{
+    let refused = a.refused;
+    if refused == 0 {
+        return Verdict::Accepted;
+    }
+    Verdict::Refused(refused)
+}
+
+pub fn planned(a: Answer) -> Planned
+    ensures { λ r. ⌜ r ≡ planOf a ⌝ }
+{
+    let refused = a.refused;
+    if refused == 0 {
+        let p = a.plan;
+        return Planned::Ready(p);
+    }
+    Planned::Refused(refused)
+}
+
+pub fn placed(a: Answer) -> Placed
+    ensures { λ r. ⌜ r ≡ placedOf a ⌝ }
+{
+    let refused = a.refused;
+    if refused == 0 {
+        return Placed::At {
+            first: a.first,
+            count: a.count,
+        };
+    }
+    Placed::Refused(refused)
+}
+
+// As many of the len bytes from start as there are, and where they stand: in the block of s, after its first start bytes.
+pub fn part_from(s: &[u8], start: usize, len: usize) -> &[u8]
+    ensures { λ r. ⌜ (now r ≡ take len (drop start (now (s .entry)))) × (ptr r ≡ (ptr (s .entry) .0, ptr (s .entry) .1 + length (take start (now (s .entry))))) ⌝ }
+{
+    let n = s.len();
+    if n <= start {
+        return &s[n..];
+    }
+    if n - start < len {
+        return &s[start..];
+    }
+    &s[start..start + len]
+}
+
+// The part of the file that an answer's bits fill; the empty part where it is refused.
+pub fn part_of(file: &[u8], a: Answer) -> &[u8]
+    ensures { λ r. ⌜ (now r ≡ viewOf (now (file .entry)) a) × (ptr r ≡ (ptr (file .entry) .0, ptr (file .entry) .1 + length (take (a .first / 8) (now (file .entry))))) ⌝ }
+{
+    part_from(file, a.first / 8, a.count / 8)
+}

@@ -1,0 +1,62 @@
+-- Sums that fit, and the first bit as the map has it. Assumes nothing.
+use mathlib.Core.Path.{_≡_, sym}
+use mathlib.Core.Bool.{true}
+use mathlib.Core.List.{List}
+use Prim.Native.Nat.{ℕ, _+_, _-_, _*_, _≤_, _<_}
+use native.Mathlib.Nat.{mul-le-mul}
+use native.Mathlib.Omega.{arith}
+use lib.Dec.{T}
+use lib.ListN.{length, getD}
+use Rattle.standard_rules.specs.Map.{Map, columnAt, setOf, firstRowOf, covers, mapSet}
+use Rattle.standard_rules.specs.Place.{placeOf, entryOf}
+use Rattle.standard_rules.proofs.Entries.{found, covers-end}
+use Rattle.bytes_at.specs.Number.{uintOf, numberIn, numbersAt}
+use Rattle.standard_rules.specs.declared.Entry.{Entry}
+use Rattle.standard_rules.specs.Halving.{firstRowIn, halvingOf}
+use Rattle.bytes_at.proofs.Listed.{numbers-length, number-at}
+use Rattle.standard_index.proofs.rows.Starts.{first-row-is}
+use Rattle.standard_index.proofs.rows.Halving.{search-entry}
+use Rattle.standard_rules.specs.declared.Set.{Set}
+use Rattle.standard.specs.Bit.{entryByHalving, bitByHalving}
+
+-- ---- no sum of a first bit wraps
+pub product : {a b : ℕ} (m n : ℕ) → a ≤ m → b ≤ n → a * b ≤ m * n
+product m n h k = mul-le-mul h k
+
+-- the calls' results are the definition's numbers
+pub bit-by : (text : List ℕ) (s : Set) (size offset bits row : ℕ) {e : Entry} {b r : ℕ}
+    → e ≡ halvingOf (numbersAt true 4 text (s .lasts) (s .entries)) row
+    → b ≡ uintOf true 4 text (s .buckets + e .at * 4)
+    → r ≡ row - firstRowIn true 4 text (s .lasts) (e .at)
+    → 8 * (512 + b * size + offset) + r * bits ≡ bitByHalving text s size offset bits row
+unfolding bitByHalving
+bit-by text s size offset bits row p q v = rw (q, v, p)
+
+-- ---- in a set whose last rows cover the rows
+module _ (text : List ℕ) (s : Set) (rows row : ℕ) (v : T (covers rows (s .per) 0 (numbersAt true 4 text (s .lasts) (s .entries)))) (h : row < rows) where
+  abbrev lasts : List ℕ
+  lasts = numbersAt true 4 text (s .lasts) (s .entries)
+
+  same-entry : entryByHalving text s row ≡ entryOf lasts row
+  same-entry = search-entry rows (s .per) lasts row v h
+
+  known : entryOf lasts row < s .entries
+  known =
+      let e : firstRowOf lasts (length lasts) ≡ rows = covers-end rows (s .per) 0 lasts v in
+      omega (arith, found lasts row (omega arith) .known, numbers-length true 4 text (s .lasts) (s .entries))
+
+  pub some-entry : 0 < s .entries
+  some-entry = omega (arith, known)
+
+  pub entry-known : entryByHalving text s row < s .entries
+  entry-known = omega (arith, same-entry, known)
+
+  -- the first bit that the halving rule gives is the map's
+  pub bit-is : (m : Map) (c : ℕ) → setOf m c ≡ mapSet text s → bitByHalving text s (m .size) (columnAt m c .offset) (columnAt m c .bits) row ≡ placeOf m row c .first
+  unfolding bitByHalving
+  bit-is m c e =
+      let b : numberIn true 4 text (s .buckets) (entryOf lasts row) ≡ getD (numbersAt true 4 text (s .buckets) (s .entries)) (entryOf lasts row) 0
+      = sym (number-at true 4 text (s .buckets) (s .entries) (entryOf lasts row) known) in
+      let r : firstRowIn true 4 text (s .lasts) (entryOf lasts row) ≡ firstRowOf lasts (entryOf lasts row)
+      = first-row-is true 4 text (s .lasts) (s .entries) (entryOf lasts row) (omega (arith, known)) in
+      rw (e, same-entry, b, r)

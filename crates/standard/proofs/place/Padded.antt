@@ -1,0 +1,51 @@
+-- What is read inside a text is read the same where more bytes follow it. Assumes nothing.
+use mathlib.Core.Path.{_≡_, refl, ap, _∙_}
+use mathlib.Core.Bool.{true}
+use mathlib.Core.List.{List, _++_}
+use Prim.Native.Nat.{ℕ, zero, suc, _+_, _-_, _*_, _≤_, _<_}
+use native.Mathlib.Omega.{arith}
+use lib.ListN.{length, length-append, List·getD-append}
+use Rattle.bytes_at.specs.Number.{uintOf, numberIn, numbersAt}
+use Rattle.bytes_at.proofs.Numbers.{big-number}
+use Rattle.standard_rules.specs.Halving.{firstRowIn, halvingOf}
+use Rattle.standard_rules.specs.declared.Set.{Set}
+use Rattle.standard_index.specs.Bounds.{SetInside}
+use Rattle.standard.specs.Bit.{entryByHalving, bitByHalving}
+
+module _ (s z : List ℕ) where
+  long : length (s ++ z) ≡ length s + length z
+  long = length-append s z
+
+  pub uint-same : (at : ℕ) → at + 4 ≤ length s → uintOf true 4 (s ++ z) at ≡ uintOf true 4 s at
+  uint-same at h =
+      let e0 = List·getD-append s z 0 (at + 0) (omega arith) in
+      let e1 = List·getD-append s z 0 (at + 1) (omega arith) in
+      let e2 = List·getD-append s z 0 (at + 2) (omega arith) in
+      let e3 = List·getD-append s z 0 (at + 3) (omega arith) in
+      omega (arith, big-number 4 (s ++ z) at (omega (arith, long)), big-number 4 s at h)
+
+  pub numbers-same : (at n : ℕ) → at + n * 4 ≤ length s → numbersAt true 4 (s ++ z) at n ≡ numbersAt true 4 s at n
+  unfolding numbersAt
+  numbers-same at zero h = refl
+  numbers-same at (suc n) h = rw (uint-same at (omega arith), numbers-same (at + 4) n (omega arith))
+
+  pub number-same : (at n k : ℕ) → k < n → at + n * 4 ≤ length s → numberIn true 4 (s ++ z) at k ≡ numberIn true 4 s at k
+  number-same at n k h l = uint-same (at + k * 4) (omega arith)
+
+  first-same : (at n k : ℕ) → k < n → at + n * 4 ≤ length s → firstRowIn true 4 (s ++ z) at k ≡ firstRowIn true 4 s at k
+  unfolding firstRowIn
+  first-same at n zero h l = refl
+  first-same at n (suc k) h l = ap (λ (x : ℕ). x + 1) (number-same at n k (omega arith) l)
+
+  -- the first bit, where the halving rule finds one of the entries
+  pub bit-same : (x : Set) (size offset bits row : ℕ) → SetInside (length s) 4 x → entryByHalving s x row < x .entries
+      → bitByHalving (s ++ z) x size offset bits row ≡ bitByHalving s x size offset bits row
+  unfolding bitByHalving
+  bit-same x size offset bits row i h =
+      let e : entryByHalving (s ++ z) x row ≡ entryByHalving s x row = ap (λ (l : List ℕ). halvingOf l row .at) (numbers-same (x .lasts) (x .entries) (i .lasts-inside)) in
+      let b : numberIn true 4 (s ++ z) (x .buckets) (entryByHalving (s ++ z) x row) ≡ numberIn true 4 s (x .buckets) (entryByHalving s x row)
+      = ap (λ (k : ℕ). numberIn true 4 (s ++ z) (x .buckets) k) e ∙ number-same (x .buckets) (x .entries) (entryByHalving s x row) h (i .buckets-inside) in
+      let r : firstRowIn true 4 (s ++ z) (x .lasts) (entryByHalving (s ++ z) x row) ≡ firstRowIn true 4 s (x .lasts) (entryByHalving s x row)
+      = ap (λ (k : ℕ). firstRowIn true 4 (s ++ z) (x .lasts) k) e ∙ first-same (x .lasts) (x .entries) (entryByHalving s x row) h (i .lasts-inside) in
+      ap (λ (n : ℕ). 8 * (512 + n * size + offset) + (row - firstRowIn true 4 (s ++ z) (x .lasts) (entryByHalving (s ++ z) x row)) * bits) b
+      ∙ ap (λ (n : ℕ). 8 * (512 + numberIn true 4 s (x .buckets) (entryByHalving s x row) * size + offset) + (row - n) * bits) r

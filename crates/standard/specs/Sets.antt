@@ -1,0 +1,24 @@
+-- How the code judges the sets of a map: over sets that are given by position: their numbers of entries, their rows per bucket, and
+-- where in the index text their last rows and their bucket numbers start.
+use Prim.Native.Nat.{ℕ, zero, suc}
+use mathlib.Core.Bool.{Bool, true, _&&_}
+use mathlib.Core.List.{List, [], _++_}
+use lib.ListN.{getD}
+use Rattle.standard_rules.specs.Map.{covers}
+use Rattle.bytes_at.specs.Number.{numbersAt}
+use Rattle.bytes_at.specs.Lists.{all, pairs, below, unlike}
+
+-- "last rows rise strictly, none spans more than rows per bucket, the last is rows - 1", of m sets from set k on
+unfoldable pub rowsFit : ℕ → List ℕ → List ℕ → List ℕ → List ℕ → ℕ → ℕ → Bool
+rowsFit rows text entries pers lasts zero k = true
+rowsFit rows text entries pers lasts (suc m) k =
+    let rest = rowsFit rows text entries pers lasts m (suc k) in
+    covers rows (getD pers k 0) 0 (numbersAt true 4 text (getD lasts k 0) (getD entries k 0)) && rest
+
+-- the data buckets of m sets from set k on
+unfoldable pub dataBy : List ℕ → List ℕ → List ℕ → ℕ → ℕ → List ℕ
+dataBy text entries buckets zero k = []
+dataBy text entries buckets (suc m) k = numbersAt true 4 text (getD buckets k 0) (getD entries k 0) ++ dataBy text entries buckets m (suc k)
+
+unfoldable pub apartOf : ℕ → List ℕ → List ℕ → List ℕ → Bool
+apartOf nb dat index free = all (below nb) (dat ++ (index ++ free)) && pairs unlike (dat ++ (index ++ free))

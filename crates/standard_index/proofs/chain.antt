@@ -1,0 +1,3 @@
+-- Laws of the gathered index text.
+pub mod Gathered
+pub mod Room

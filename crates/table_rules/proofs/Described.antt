@@ -1,0 +1,82 @@
+-- What holds of every description, refused ones too.
+-- Assumes nothing.
+use mathlib.Core.Path.{_≡_, refl, _∙_}
+use mathlib.Core.List.{List}
+use mathlib.Core.Bool.{Bool, true, false, cond}
+use Prim.Native.Nat.{ℕ, zero, suc, _≤_, zero-le}
+use lib.Dec.{eqb}
+use lib.ListN.{length, getD, length-set, length-replicate}
+use Rattle.bytes_at.specs.Steps.{after, _>>=_}
+use Rattle.aipsio_rules.specs.declared.Cursor.{Cursor}
+use Rattle.aipsio_rules.proofs.Bounds.{ranged-le}
+use Rattle.table_rules.specs.ColumnDesc.{noColumn, columnInto, noColumns, columnsAt}
+use Rattle.table_rules.specs.declared.Owner.{Owner}
+use Rattle.table_rules.specs.ColumnSet.{noBinding, bindingsAt}
+use Rattle.table_rules.specs.declared.Description.{Description}
+use Rattle.table_rules.specs.Table.{tableHeadAt, tableDescHeadAt, describedAs, refusedTable}
+use Rattle.table_rules.proofs.WholeBytes.{Whole, no-columns-whole, columns-whole}
+
+-- the loops that fill the columns and their bindings keep the 64 places
+turns-long : (s : List ℕ) (c : Cursor) (n : ℕ) → length (after (columnInto s) (noColumns c) n .columns) ≡ 64
+unfolding after columnInto _>>=_
+turns-long s c zero = length-replicate 64 noColumn
+turns-long s c (suc n) = length-set (after (columnInto s) (noColumns c) n .columns) n _ ∙ turns-long s c n
+
+columns-long : (s : List ℕ) (c : Cursor) (n : ℕ) → length (columnsAt s c n .columns) ≡ 64
+unfolding columnsAt
+columns-long s c n = turns-long s c n
+
+bindings-long : (s : List ℕ) (owners : List Owner) (counts : List ℕ) (ours : List Bool) (starts : List ℕ) (n : ℕ) → length (bindingsAt s owners counts ours starts n) ≡ 64
+unfolding bindingsAt after
+bindings-long s owners counts ours starts zero = length-replicate 64 noBinding
+bindings-long s owners counts ours starts (suc n) = length-set (bindingsAt s owners counts ours starts n) n _ ∙ bindings-long s owners counts ours starts n
+
+pub record Described (d : Description) : Type 0 where
+  pub rows-most : d .rows ≤ 2147483647
+  pub columns-most : d .«column_count» ≤ 64
+  pub columns-places : length (d .columns) ≡ 64
+  pub bindings-places : length (d .bindings) ≡ 64
+  -- the cells of a column that is none of Bools take whole bytes
+  pub columns-whole : (i : ℕ) → Whole (getD (d .columns) i noColumn)
+
+head-most : (s : List ℕ) (c : Cursor) → tableHeadAt s c .rows ≤ 2147483647
+unfolding tableHeadAt _>>=_
+head-most s c = ranged-le s c 4 0 2147483647 3
+
+count-most : (s : List ℕ) (c : Cursor) → tableDescHeadAt s c .count ≤ 64
+unfolding tableDescHeadAt _>>=_
+count-most s c = ranged-le s _ 4 1 64 3
+
+either : (b : Bool) (x y : Description) → Described x → Described y → Described (cond b x y)
+either true x y h k = h
+either false x y h k = k
+
+refused : (n : ℕ) → Described (refusedTable n)
+unfolding refusedTable
+refused n = record {
+  rows-most = zero-le;
+  columns-most = zero-le;
+  columns-places = length-replicate 64 noColumn;
+  bindings-places = length-replicate 64 noBinding;
+  columns-whole = no-columns-whole;
+}
+
+-- a line of the definition
+line : {A : Type 0} (a : A) (next : A → Description) → ((x : A) → x ≡ a → Described (next x)) → Described (a >>= next)
+unfolding _>>=_
+line a next h = h a refl
+
+pub described : (t : List ℕ) → Described (describedAs t)
+unfolding describedAs
+described t =
+    line _ _ (λ c _. line _ _ (λ m _. line _ _ (λ u _. line _ _ (λ head e. line _ _ (λ o _. line _ _ (λ n k. line _ _ (λ cs x. line _ _ (λ end _. line _ _ (λ set _.
+    line _ _ (λ ms _. line _ _ (λ os _. line _ _ (λ is _. line _ _ (λ d _. line _ _ (λ bs y.
+    either (eqb (d .refused) 0) _ _
+    (record {
+      rows-most = rw e (head-most t (u .next));
+      columns-most = rw k (count-most t (o .next));
+      columns-places = rw x (columns-long t (n .next) (n .count));
+      bindings-places = rw y (bindings-long t (os .owners) (os .counts) (ms .ours) (is .starts) (n .count));
+      columns-whole = rw x (columns-whole t (n .next) (n .count));
+    })
+    (refused (d .refused))))))))))))))))

@@ -1,0 +1,100 @@
+-- Document 01, "table.dat", and Note 260, 3.1: Table, TableDesc; the questions Description and Column by name.
+use Prim.Native.Nat.{ℕ}
+use mathlib.Core.List.{List}
+use lib.ListN.{length, replicate, getD}
+use lib.Dec.{leb, eqb, ltb}
+use mathlib.Core.Bool.{false, cond}
+use Rattle.bytes_at.specs.Bytes.{bytes}
+use Rattle.aipsio_rules.specs.declared.Cursor.{Cursor}
+use Rattle.aipsio_rules.specs.Field.{judged, numberAt, codeAt, nameAt, stringAt, markAt}
+use Rattle.bytes_at.specs.Steps.{_>>=_}
+use Rattle.table_rules.specs.declared.TableHead.{TableHead}
+use Rattle.aipsio_rules.specs.Object.{recordAt, opened, closed}
+use Rattle.table_rules.specs.declared.TableDescHead.{TableDescHead}
+use Rattle.table_rules.specs.ColumnDesc.{noColumn, columnsAt, firstNamed}
+use Rattle.table_rules.specs.ColumnSet.{noManager, noBinding, columnSetHeadAt, managersAt, infosAt, bindingsAt, ownersAt}
+use Rattle.table_rules.specs.declared.Description.{Description}
+use Rattle.table_rules.specs.declared.Binding.{Binding}
+use Rattle.table_rules.specs.declared.Position.{Position}
+use Rattle.table_rules.specs.declared.Position.the-variants.{At, Refused}
+use Rattle.bytes_at.specs.Stages.{_▷_, orNo}
+
+-- the bytes of table.dat, AipsIO's own byte order: "at most 65,536 bytes (else 4, before anything is read)"
+abbrev pub wholeOf : List ℕ → Cursor
+wholeOf s = judged (record { at = 0; end = length s; big = 1; refused = 0 }) 65536 (leb (length s) 65536) 4
+
+-- "rows 0 to 2,147,483,647", endianness 0 or 1 (else 5), "table type PlainTable"
+unfoldable pub tableHeadAt : List ℕ → Cursor → TableHead
+tableHeadAt s c = do
+  rows ← numberAt s c 4 0 2147483647
+  endian ← codeAt s (rows .next) 0 1
+  kind ← nameAt s (endian .next) (bytes "PlainTable")
+  record { rows = rows .value; big = eqb (endian .value) 1; next = kind }
+
+-- TableDesc: name, version and comment, keyword set, private keyword set, "columns 1 to 64"
+unfoldable pub tableDescHeadAt : List ℕ → Cursor → TableDescHead
+tableDescHeadAt s c = do
+  name ← stringAt s c 0 4096
+  version ← stringAt s (name .next) 0 4096
+  comment ← stringAt s (version .next) 0 4096
+  keywords ← recordAt s (comment .next)
+  private ← recordAt s keywords
+  n ← numberAt s private 4 1 64
+  record { count = n .value; next = n .next }
+
+-- "A refusal carries its number and zeros."
+unfoldable pub refusedTable : ℕ → Description
+refusedTable n = record {
+  refused = n;
+  rows = 0;
+  «column_count» = 0;
+  «manager_count» = 0;
+  columns = replicate 64 noColumn;
+  bindings = replicate 64 noBinding;
+  managers = replicate 16 noManager;
+  big = false;
+}
+
+-- Description: Table version 2, TableDesc version 2 inside it, and after that the ColumnSet
+unfoldable pub describedAs : List ℕ → Description
+describedAs s = do
+  c ← wholeOf s
+  m ← markAt s c
+  t ← opened s m (bytes "Table") 2 2
+  head ← tableHeadAt s (t .next)
+  o ← opened s (head .next) (bytes "TableDesc") 2 2
+  n ← tableDescHeadAt s (o .next)
+  cs ← columnsAt s (n .next) (n .count)
+  e ← closed (cs .next) (head .next)
+  set ← columnSetHeadAt s e (head .rows)
+  ms ← managersAt s (set .next) (set .count) (set .highest)
+  os ← ownersAt s (ms .next) (cs .arrays) (n .count) (ms .numbers) (set .count)
+  is ← infosAt s (os .next) (ms .ours) (os .counts) (set .count)
+  d ← closed (is .next) m
+  bindings ← bindingsAt s (os .owners) (os .counts) (ms .ours) (is .starts) (n .count)
+  cond (eqb (d .refused) 0)
+      (record {
+        refused = 0;
+        rows = head .rows;
+        «column_count» = n .count;
+        «manager_count» = set .count;
+        columns = cs .columns;
+        bindings = bindings;
+        managers = ms .managers;
+        big = head .big;
+      })
+      (refusedTable (d .refused))
+
+-- the binding of the column at a position
+abbrev pub bindingIn : Description → ℕ → Binding
+bindingIn d position = getD (d .bindings) position noBinding
+
+abbrev pub positionOr : ℕ → ℕ → Position
+positionOr refused k = cond (eqb refused 0) (At k) (Refused refused)
+
+-- Column by name: its position, from 0 in stored order, or 8
+unfoldable pub columnNamed : List ℕ → List ℕ → Position
+columnNamed s name = do
+  d ← describedAs s
+  k ← firstNamed s (d .columns) (d .«column_count») name
+  positionOr (d .refused ▷ orNo (ltb k (d .«column_count»)) 8) k

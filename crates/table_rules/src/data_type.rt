@@ -1,0 +1,249 @@
+// The data types of columns (document 01, "table.dat").
+
+ghost use mathlib.Core.Path.{_≡_};
+ghost use Prim.Native.Nat.{_≤_, _<_, ℕ};
+ghost use lib.ListN.{length};
+ghost use mathlib.Core.Bool.{true};
+ghost use Rattle.table_rules.specs.DataType.{nthType, typeName, filled, withNumber, isName, withName};
+
+// A data type: its number in Casacore's DataType.h, and the bits of an element, 0 for a String, whose size is its cell's.
+pub struct DataType {
+    pub number: u8,
+    pub bits: u8,
+}
+
+// The type that a number or a name stands for, or that it stands for none.
+pub enum Known {
+    Of(DataType),
+    Nothing,
+}
+
+impl DataType {
+    pub const BOOL: DataType = DataType { number: 0, bits: 1 };
+
+    pub const UCHAR: DataType = DataType { number: 2, bits: 8 };
+
+    pub const SHORT: DataType = DataType {
+        number: 3,
+        bits: 16,
+    };
+
+    pub const USHORT: DataType = DataType {
+        number: 4,
+        bits: 16,
+    };
+
+    pub const INT: DataType = DataType {
+        number: 5,
+        bits: 32,
+    };
+
+    pub const UINT: DataType = DataType {
+        number: 6,
+        bits: 32,
+    };
+
+    pub const FLOAT: DataType = DataType {
+        number: 7,
+        bits: 32,
+    };
+
+    pub const DOUBLE: DataType = DataType {
+        number: 8,
+        bits: 64,
+    };
+
+    pub const COMPLEX: DataType = DataType {
+        number: 9,
+        bits: 64,
+    };
+
+    pub const DCOMPLEX: DataType = DataType {
+        number: 10,
+        bits: 128,
+    };
+
+    pub const STRING: DataType = DataType {
+        number: 11,
+        bits: 0,
+    };
+
+    pub const INT64: DataType = DataType {
+        number: 29,
+        bits: 64,
+    };
+
+    // The names, filled with spaces to eight characters.
+    const BOOL_NAME: [u8; 8] = *b"Bool    ";
+
+    const UCHAR_NAME: [u8; 8] = *b"uChar   ";
+
+    const SHORT_NAME: [u8; 8] = *b"Short   ";
+
+    const USHORT_NAME: [u8; 8] = *b"uShort  ";
+
+    const INT_NAME: [u8; 8] = *b"Int     ";
+
+    const UINT_NAME: [u8; 8] = *b"uInt    ";
+
+    const FLOAT_NAME: [u8; 8] = *b"float   ";
+
+    const DOUBLE_NAME: [u8; 8] = *b"double  ";
+
+    const COMPLEX_NAME: [u8; 8] = *b"Complex ";
+
+    const DCOMPLEX_NAME: [u8; 8] = *b"DComplex";
+
+    const STRING_NAME: [u8; 8] = *b"String  ";
+
+    const INT64_NAME: [u8; 8] = *b"Int64   ";
+
+    const NO_NAME: [u8; 8] = *b"        ";
+
+    // How many data types there are.
+    pub const COUNT: usize = 12;
+
+    // The type at a place of document 01's table.
+    fn nth(i: usize) -> DataType
+        ensures { λ r. ⌜ r ≡ nthType i ⌝ }
+    {
+        match i {
+            1 => DataType::UCHAR,
+            2 => DataType::SHORT,
+            3 => DataType::USHORT,
+            4 => DataType::INT,
+            5 => DataType::UINT,
+            6 => DataType::FLOAT,
+            7 => DataType::DOUBLE,
+            8 => DataType::COMPLEX,
+            9 => DataType::DCOMPLEX,
+            10 => DataType::STRING,
+            11 => DataType::INT64,
+            _ => DataType::BOOL,
+        }
+    }
+
+    // The name, filled with spaces to eight characters; spaces alone for what is none of document 01's types.
+    pub fn name(self) -> [u8; 8]
+        ensures { λ r. ⌜ r ≡ filled (typeName self) ⌝ }
+    {
+        let number = self.number;
+        match number {
+            0 => DataType::BOOL_NAME,
+            2 => DataType::UCHAR_NAME,
+            3 => DataType::SHORT_NAME,
+            4 => DataType::USHORT_NAME,
+            5 => DataType::INT_NAME,
+            6 => DataType::UINT_NAME,
+            7 => DataType::FLOAT_NAME,
+            8 => DataType::DOUBLE_NAME,
+            9 => DataType::COMPLEX_NAME,
+            10 => DataType::DCOMPLEX_NAME,
+            11 => DataType::STRING_NAME,
+            29 => DataType::INT64_NAME,
+            _ => DataType::NO_NAME,
+        }
+    }
+
+    // How long the bare name is.
+    pub fn name_len(self) -> usize
+        ensures { λ r. ⌜ (r ≡ length (typeName self)) × (r ≤ 8) ⌝ }
+    {
+        let number = self.number;
+        match number {
+            0 => 4,
+            2 => 5,
+            3 => 5,
+            4 => 6,
+            5 => 3,
+            6 => 4,
+            7 => 5,
+            8 => 6,
+            9 => 7,
+            10 => 8,
+            11 => 6,
+            29 => 5,
+            _ => 0,
+        }
+    }
+
+    // The bits of an element; 0 for a String.
+    pub fn element_bits(self) -> usize
+        ensures { λ r. ⌜ (r ≡ self .bits) × (r < 256) ⌝ }
+    {
+        self.bits as usize
+    }
+
+    // The type of a number.
+    pub fn from_number(n: usize) -> Known
+        ensures { λ r. ⌜ r ≡ withNumber n ⌝ }
+    {
+        match n {
+            0 => Known::Of(DataType::BOOL),
+            2 => Known::Of(DataType::UCHAR),
+            3 => Known::Of(DataType::SHORT),
+            4 => Known::Of(DataType::USHORT),
+            5 => Known::Of(DataType::INT),
+            6 => Known::Of(DataType::UINT),
+            7 => Known::Of(DataType::FLOAT),
+            8 => Known::Of(DataType::DOUBLE),
+            9 => Known::Of(DataType::COMPLEX),
+            10 => Known::Of(DataType::DCOMPLEX),
+            11 => Known::Of(DataType::STRING),
+            29 => Known::Of(DataType::INT64),
+            _ => Known::Nothing,
+        }
+    }
+
+    // Whether the bytes are the type's name, bare or filled.
+    fn named(self, s: &[u8]) -> bool
+        ensures { λ r. ⌜ r ≡ isName (now (s .entry)) (typeName self) ⌝ }
+    {
+        let name = self.name();
+        let len = self.name_len();
+        if bytes_at::text_at::same(s, &name[..len]) {
+            return true;
+        }
+        bytes_at::text_at::same(s, &name)
+    }
+
+    // The place of the one type whose name the bytes can be. The fourth letter tells the names apart, and the first uChar
+    // from float.
+    fn place(s: &[u8]) -> usize
+        ensures { λ r. ⌜ (r < 12) × ((j : ℕ) → j < 12 → isName (now (s .entry)) (typeName (nthType j)) ≡ true → r ≡ j) ⌝ }
+    {
+        if s.len() < 4 {
+            return 4;
+        }
+        let letter = s[3];
+        match letter {
+            b'l' => 0,
+            b'a' => {
+                if s[0] == b'u' {
+                    return 1;
+                }
+                6
+            }
+            b'r' => 2,
+            b'o' => 3,
+            b't' => 5,
+            b'b' => 7,
+            b'p' => 8,
+            b'm' => 9,
+            b'i' => 10,
+            b'6' => 11,
+            _ => 4,
+        }
+    }
+
+    // The type of a name, bare or filled with spaces to eight characters.
+    pub fn from_name(s: &[u8]) -> Known
+        ensures { λ r. ⌜ r ≡ withName (now (s .entry)) ⌝ }
+    {
+        let t = DataType::nth(DataType::place(s));
+        if t.named(s) {
+            return Known::Of(t);
+        }
+        Known::Nothing
+    }
+}
