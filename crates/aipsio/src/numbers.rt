@@ -23,7 +23,7 @@ pub fn sized(s: &[u8], c: Cursor, width: Width) -> Value
         let d = crate::refuse(c, at, 1);
         return Value { value: 0, next: d };
     }
-    let v = bytes_at::number(s, at, big == 1, width);
+    let v = bytes_at::number(s, at, big, width);
     Value {
         value: v,
         next: Cursor {

@@ -22,7 +22,7 @@ pub fn any_string(s: &[u8], c: Cursor) -> Text
             next: c,
         };
     }
-    let n = bytes_at::word(s, at, big == 1);
+    let n = bytes_at::word(s, at, big);
     let size = 4 + n;
     if crate::left(c) < size {
         let d = crate::refuse(c, at, 1);

@@ -82,7 +82,7 @@ module _ (s : List ℕ) (c : Cursor) (width : ℕ) where
   unfolding sizedAt settled _>>=_
   sized-fits e = skipped-fits c width e
 
-  pub sized-is : Clean (sizedAt s c width .next) → sizedAt s c width ≡ record { value = uintOf (eqb (c .big) 1) width s (c .at); next = movedTo c (c .at + width) }
+  pub sized-is : Clean (sizedAt s c width .next) → sizedAt s c width ≡ record { value = uintOf (c .big) width s (c .at); next = movedTo c (c .at + width) }
   sized-is e = let f = sized-fits e in sym (sized-on s c (f .0) refl refl (f .1) refl)
 
   module _ (low high n : ℕ) (e : Clean (rangedAt s c width low high (suc n) .next)) where
@@ -109,12 +109,12 @@ agreed-is s c n e =
 
 -- a String's bytes are there
 module _ (s : List ℕ) (c : Cursor) where
-  text-fits : Clean (textAt s c .next) → (Clean c) × (4 + uintOf (eqb (c .big) 1) 4 s (c .at) ≤ leftIn c)
+  text-fits : Clean (textAt s c .next) → (Clean c) × (4 + uintOf (c .big) 4 s (c .at) ≤ leftIn c)
   unfolding textAt _>>=_
   text-fits e = skipped-fits c _ (rw text-next at e)
 
   pub text-is : Clean (textAt s c .next)
-      → textAt s c ≡ record { start = c .at + 4; len = uintOf (eqb (c .big) 1) 4 s (c .at); next = movedTo c (c .at + (4 + uintOf (eqb (c .big) 1) 4 s (c .at))) }
+      → textAt s c ≡ record { start = c .at + 4; len = uintOf (c .big) 4 s (c .at); next = movedTo c (c .at + (4 + uintOf (c .big) 4 s (c .at))) }
   text-is e = let f = text-fits e in sym (any-string-on s c (f .0) refl refl (f .1))
 
   module _ (low high : ℕ) (e : Clean (stringAt s c low high .next)) where

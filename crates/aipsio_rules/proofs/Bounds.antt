@@ -29,8 +29,8 @@ text-le c n h = elim (ℕ-discrete (c .refused) 0) [ yes q ↦ rw (← (text-on 
 pub uint-below : (s : List ℕ) (c : Cursor) → Bytes s → uintAt s c .value < 4294967296
 unfolding uintAt _>>=_
 uint-below s c h =
-    let l = word-below s (c .at) h (eqb (c .big) 1) in
-    omega (arith, settled-le (uintOf (eqb (c .big) 1) 4 s (c .at)) (skipped c 4) {high = 4294967295} (λ e. omega arith))
+    let l = word-below s (c .at) h (c .big) in
+    omega (arith, settled-le (uintOf (c .big) 4 s (c .at)) (skipped c 4) {high = 4294967295} (λ e. omega arith))
 
 pub ranged-le : (s : List ℕ) (c : Cursor) (width low high n : ℕ) → rangedAt s c width low high (suc n) .value ≤ high
 unfolding rangedAt _>>=_

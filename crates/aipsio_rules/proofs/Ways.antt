@@ -52,7 +52,7 @@ module _ (s : List ℕ) (c : Cursor) where
         via _ (p ∙ skip-refused c h e width (omega arith)) (
         sym (settled-none _ d (given-refused 0 p refl))))
 
-    pub sized-on : {v : ℕ} → n ≤ room → v ≡ uintOf (eqb (c .big) 1) width s (c .at) → record { value = v; next = movedTo c (c .at + n) } ≡ sizedAt s c width
+    pub sized-on : {v : ℕ} → n ≤ room → v ≡ uintOf (c .big) width s (c .at) → record { value = v; next = movedTo c (c .at + n) } ≡ sizedAt s c width
     unfolding sizedAt
     sized-on {v} l q =
         via _ q (
@@ -81,7 +81,7 @@ module _ (s : List ℕ) (c : Cursor) where
       ranged-out e p z = via _ q (via _ t (via _ (p ∙ judge-refused (r .next) h (c .at) ok number e) z))
 
   -- a String
-  module _ (h : Clean c) {room n : ℕ} (e : room ≡ leftIn c) (q : n ≡ uintOf (eqb (c .big) 1) 4 s (c .at)) where
+  module _ (h : Clean c) {room n : ℕ} (e : room ≡ leftIn c) (q : n ≡ uintOf (c .big) 4 s (c .at)) where
     pub any-string-short : {d : Cursor} → room < 4 + n → d ≡ refusedAt c (c .at) 1 → record { start = 0; len = 0; next = d } ≡ textAt s c
     unfolding textAt
     any-string-short {d} l p =

@@ -11,6 +11,13 @@ use Rattle.aipsio_rules.specs.declared.Cursor.{Cursor}
 use Rattle.aipsio_rules.specs.declared.Value.{Value}
 use Rattle.aipsio_rules.specs.declared.Text.{Text}
 
+-- An Int is the uInt of the same bytes: -1 and -2.
+abbrev pub minusOne : ℕ
+minusOne = 4294967295
+
+abbrev pub minusTwo : ℕ
+minusTwo = 4294967294
+
 -- the cursor itself if it is refused; else what follows
 abbrev pub latched : Cursor → Cursor → Cursor
 latched c d = cond (eqb (c .refused) 0) d c
@@ -48,14 +55,14 @@ settled v c = record { value = cond (eqb (c .refused) 0) v 0; next = c }
 -- a number of so many bytes
 unfoldable pub sizedAt : List ℕ → Cursor → ℕ → Value
 sizedAt s c width = do
-  v ← uintOf (eqb (c .big) 1) width s (c .at)
+  v ← uintOf (c .big) width s (c .at)
   d ← skipped c width
   settled v d
 
 -- a uInt
 unfoldable pub uintAt : List ℕ → Cursor → Value
 uintAt s c = do
-  v ← uintOf (eqb (c .big) 1) 4 s (c .at)
+  v ← uintOf (c .big) 4 s (c .at)
   d ← skipped c 4
   settled v d
 
@@ -105,7 +112,7 @@ textBefore c n =
 -- a String: a uInt length and its bytes, one field
 unfoldable pub textAt : List ℕ → Cursor → Text
 textAt s c = do
-  n ← uintOf (eqb (c .big) 1) 4 s (c .at)
+  n ← uintOf (c .big) 4 s (c .at)
   d ← skipped c (4 + n)
   textBefore d n
 

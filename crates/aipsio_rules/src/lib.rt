@@ -1,12 +1,12 @@
 // The rules of AipsIO (document 01, "AipsIO"; Note 260, 2), as definitions over the bytes: `specs/`. Here stand the types that they speak
 // of. The code that follows them is in `aipsio`.
 
-// Where the next field begins, where the enclosing object ends, the byte order (1: big endian, AipsIO's own; any other
-// number: little endian), and the refusal number: 0 while there is none. After a refusal `at` is where the failing field begins.
+// Where the next field begins, where the enclosing object ends, whether the byte order is big endian (AipsIO's own), and the
+// refusal number: 0 while there is none. After a refusal `at` is where the failing field begins.
 pub struct Cursor {
     pub at: usize,
     pub end: usize,
-    pub big: usize,
+    pub big: bool,
     pub refused: usize,
 }
 

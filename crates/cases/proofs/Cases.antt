@@ -70,7 +70,7 @@ withIndexBuckets n = set f0 53 n
 
 -- the first 512 bytes of a file, and the cursor past the header in them
 abbrev room : List ℕ → Cursor
-room f = record { at = 0; end = headerRoom (length f); big = 1; refused = 0 }
+room f = record { at = 0; end = headerRoom (length f); big = true; refused = 0 }
 
 abbrev pastHeader : List ℕ → Cursor
 pastHeader f =

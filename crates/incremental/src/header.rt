@@ -67,7 +67,7 @@ pub fn read_header(f: &[u8], big: bool) -> Header
     let start = Cursor {
         at: 0,
         end: room,
-        big: 1,
+        big: true,
         refused: 0,
     };
     let m = aipsio::numbers::mark(f, start);

@@ -35,7 +35,7 @@ pub fn read_index(f: &[u8], at: usize) -> Index
     let start = Cursor {
         at: at,
         end: f.len(),
-        big: 1,
+        big: true,
         refused: 0,
     };
     let m = aipsio::numbers::mark(f, start);

@@ -53,7 +53,7 @@ data-le s c size =
 pub bucket-le : (f : List ℕ) (at size : ℕ) (big : Bool) (rows row column : ℕ) (bytes : List ℕ) (n : ℕ) → bucketAt f at size big rows row column bytes n .value ≤ size
 unfolding bucketAt columnPartsAt _>>=_
 bucket-le f at size big rows row column bytes n =
-    let c : Cursor = record { at = at; end = at + size; big = cond big 1 0; refused = 0 } in
+    let c : Cursor = record { at = at; end = at + size; big = big; refused = 0 } in
     let l = data-le f c size in
     let k = columns-le f (dataAt f c size .value) rows row column bytes (record { value = 0; next = dataAt f c size .next }) n zero-le in
     omega arith

@@ -51,7 +51,7 @@ module _ (s : List ℕ) (c : Cursor) where
       pub data-short : left < 4 → refusedValue c (c .at) 1 ≡ dataAt s c size
       data-short l = data-off (refusedAt c (c .at) 1) 0 (λ z. omega arith) (sym (number-short s c h e l))
 
-      module _ {x : ℕ} (l : 4 ≤ left) (q : x ≡ uintOf (eqb (c .big) 1) 4 s (c .at)) where
+      module _ {x : ℕ} (l : 4 ≤ left) (q : x ≡ uintOf (c .big) 4 s (c .at)) where
         pub data-high : 16777216 ≤ x → refusedValue c (c .at) 3 ≡ dataAt s c size
         unfolding dataAt
         data-high k =
@@ -127,7 +127,7 @@ module _ (s : List ℕ) (c : Cursor) where
           column-off (refusedAt c (c .at) 1) 0 (λ z. omega arith)
           (rw (← (number-short s c h e l)) (judged-keeps (refusedAt c (c .at) 1) (c .at) _ 11 .stays (λ z. omega arith)))
 
-      module _ {n : ℕ} (l : 4 ≤ left) (q : n ≡ uintOf (eqb (c .big) 1) 4 s (c .at)) where
+      module _ {n : ℕ} (l : 4 ≤ left) (q : n ≡ uintOf (c .big) 4 s (c .at)) where
         pub column-none : n ≡ 0 → refusedValue c (c .at) 11 ≡ columnPartAt s c limit rows row bytes
         column-none z =
             column-off (refusedAt c (c .at) 11) n (λ y. omega arith)

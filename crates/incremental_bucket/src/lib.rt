@@ -6,7 +6,7 @@ pub mod values;
 ghost use Prim.Native.Nat.{_≤_, _+_};
 ghost use lib.ListN.{length};
 ghost use mathlib.Core.Path.{_≡_};
-ghost use Rattle.incremental_rules.specs.Bucket.{dataAt, columnPartAt, columnPartsAt, orderOf, bucketAt};
+ghost use Rattle.incremental_rules.specs.Bucket.{dataAt, columnPartAt, columnPartsAt, bucketAt};
 use aipsio_rules::Cursor;
 use aipsio_rules::Value;
 
@@ -26,7 +26,7 @@ fn read_data(s: &[u8], c: Cursor, size: usize) -> Value
     if left < 4 {
         return crate::values::refuse(c, at, 1);
     }
-    let x = bytes_at::word_there(s, at, big == 1);
+    let x = bytes_at::word_there(s, at, big);
     if 16777216 <= x {
         return crate::values::refuse(c, at, 3);
     }
@@ -63,7 +63,7 @@ fn read_column(s: &[u8], c: Cursor, limit: usize, rows: usize, row: usize, bytes
     if aipsio::left(c) < 4 {
         return crate::values::refuse(c, at, 1);
     }
-    let n = bytes_at::word_there(s, at, big == 1);
+    let n = bytes_at::word_there(s, at, big);
     if n == 0 {
         return crate::values::refuse(c, at, 11);
     }
@@ -106,16 +106,6 @@ fn read_columns(
     }
 }
 
-// The number that a cursor has for a byte order.
-fn order_of(big: bool) -> usize
-    ensures { λ r. ⌜ r ≡ orderOf big ⌝ }
-{
-    if big {
-        return 1;
-    }
-    0
-}
-
 // The bucket of `size` bytes from a place of the file on, in a table of the endianness given: it has so many rows, and n columns
 // whose values take so many bytes each. Gives the offset of the value that the local row has in the column.
 pub fn read_bucket(
@@ -133,11 +123,10 @@ pub fn read_bucket(
     ensures { λ r. ⌜ r ≡ bucketAt (now (f .entry)) at size big rows row column (now (bytes .entry)) n ⌝ }
     ensures bounded { λ r. ⌜ r .value ≤ size ⌝ }
 {
-    let order = order_of(big);
     let start = Cursor {
         at: at,
         end: at + size,
-        big: order,
+        big: big,
         refused: 0,
     };
     let limit = read_data(f, start, size);

@@ -37,7 +37,7 @@ pub fn read_offsets(s: &[u8], c: Cursor, n: usize, limit: usize, bytes: usize, h
     let mut offset = 0;
     let mut i = 0;
     while i < m {
-        let v = bytes_at::word_there(s, at, big == 1);
+        let v = bytes_at::word_there(s, at, big);
         if !lies_within(v, bytes, limit) {
             return Value {
                 value: 0,

@@ -81,7 +81,7 @@ pub fn read_starts(s: &[u8], c: Cursor, n: usize, rows: usize, row: usize) -> St
     let mut hit = 0;
     let mut i = 0;
     while i < m {
-        let v = bytes_at::word_there(s, at, big == 1);
+        let v = bytes_at::word_there(s, at, big);
         if !start_fits(i, last, v, rows) {
             return Starts {
                 last: 0,

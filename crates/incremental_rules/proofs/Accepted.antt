@@ -44,7 +44,7 @@ started-next c last hit =
 module _ (s : List ℕ) (big : Bool) where
   -- a cursor in the byte order
   abbrev Order : Cursor → Type 0
-  Order c = eqb (c .big) 1 ≡ big
+  Order c = c .big ≡ big
 
   -- a number
   uint-read : (c : Cursor) → Order c → Clean (uintAt s c .next)
@@ -112,7 +112,7 @@ module _ (s : List ℕ) (big : Bool) where
     starts-more c n st {new} v t = record {
       clean = v .clean;
       at = ap (λ (x : Cursor). x .at) (t .next) ∙ (omega (arith, v .at));
-      order = ap (λ (x : Cursor). eqb (x .big) 1) (t .next) ∙ v .order;
+      order = ap (λ (x : Cursor). x .big) (t .next) ∙ v .order;
       first = λ h. elim (ℕ-discrete n 0) [
         | yes q ↦
             let p : st .next .at ≡ c .at = omega (arith, v .at) in
@@ -165,7 +165,7 @@ module _ (s : List ℕ) (big : Bool) where
     offsets-more : (c : Cursor) (n : ℕ) (st : Value) {new : Value} → OffsetsRead c n st → OffsetStep st n new → OffsetsRead c (suc n) new
     offsets-more c n st {new} v t =
         let at : new .next .at ≡ c .at + suc n * 4 = ap (λ (x : Cursor). x .at) (t .next) ∙ (omega (arith, v .at)) in
-        let order : Order (new .next) = ap (λ (x : Cursor). eqb (x .big) 1) (t .next) ∙ v .order in
+        let order : Order (new .next) = ap (λ (x : Cursor). x .big) (t .next) ∙ v .order in
         elim (ℕ-discrete n hit) [
           | yes g ↦
               let eo : new .value ≡ uintOf big 4 s (st .next .at) = t .value ∙ rw (eq-eqb n hit g) in
@@ -216,7 +216,7 @@ module _ (s : List ℕ) (big : Bool) where
       let hs : Clean (st .next) = offsets-clean limit bytes (st .hit) (st .next) (n .value) e in
       let hd : Clean d = starts-clean rows row d (n .value) hs in
       let j = judged-read c (λ (x : ℕ). ltb 0 x) o hd in
-      let a = starts-read rows row d (n .value) (ap (λ (x : Cursor). eqb (x .big) 1) (j .next) ∙ o) hs in
+      let a = starts-read rows row d (n .value) (ap (λ (x : Cursor). x .big) (j .next) ∙ o) hs in
       let b = offsets-read limit bytes (st .hit) (st .next) (n .value) (a .order) e in
       let ed : d .at ≡ c .at + 4 = ap (λ (x : Cursor). x .at) (j .next) in
       let k : 0 < n .value = rw (j .value) (ltb-true 0 (uintOf big 4 s (c .at)) (j .passed)) in
@@ -309,13 +309,8 @@ module _ (s : List ℕ) (big : Bool) where
         high = omega (arith, w .1);
         value = rw (eq-eqb (n .refused) 0 e) (ap (λ (y : ℕ). y - 4) v);
         at = omega (arith, w .0);
-        order = ap (λ (y : Cursor). eqb (y .big) 1) q ∙ ap (λ (y : Cursor). eqb (y .big) 1) p ∙ o;
+        order = ap (λ (y : Cursor). y .big) q ∙ ap (λ (y : Cursor). y .big) p ∙ o;
       }
-
--- a cursor's number for the byte order
-order-is : (big : Bool) → eqb (cond big 1 0) 1 ≡ big
-order-is true = refl
-order-is false = refl
 
 -- The bucket at a place: its index offset lies in it, and the value that the row has in the column is the one that its numbers name,
 -- and lies in its data part.
@@ -330,9 +325,9 @@ pub bucket-read : (f : List ℕ) (at size : ℕ) (big : Bool) (rows row column :
     → InBucket f at size big row column bytes n (bucketAt f at size big rows row column bytes n .value)
 unfolding bucketAt columnPartsAt _>>=_
 bucket-read f at size big rows row column bytes n e =
-    let c : Cursor = record { at = at; end = at + size; big = cond big 1 0; refused = 0 } in
+    let c : Cursor = record { at = at; end = at + size; big = big; refused = 0 } in
     let d = dataAt f c size in
-    let x = data-read f big c size (order-is big) (columns-clean f big (d .value) rows row column bytes (d .next) n e) in
+    let x = data-read f big c size refl (columns-clean f big (d .value) rows row column bytes (d .next) n e) in
     let r = columns-read f big (d .value) rows row column bytes (d .next) n (x .order) e in
     record {
       low = x .low;

@@ -74,5 +74,5 @@ pub any-cell : (f : List ℕ) (at size : ℕ) (big : Bool) (rows row row′ colu
     → bucketAt f at size big rows row column bytes n .next ≡ bucketAt f at size big rows row′ column′ bytes n .next
 unfolding bucketAt columnPartsAt _>>=_
 any-cell f at size big rows row row′ column column′ bytes n =
-    let d = dataAt f (record { at = at; end = at + size; big = cond big 1 0; refused = 0 }) size in
+    let d = dataAt f (record { at = at; end = at + size; big = big; refused = 0 }) size in
     columns-alike f (d .value) rows row row′ column column′ bytes n (d .next)

@@ -44,7 +44,7 @@ module _ (s : List ℕ) (c : Cursor) (h : Clean c) {left : ℕ} (e : left ≡ le
   pub number-short : left < 4 → record { value = 0; next = refusedAt c (c .at) 1 } ≡ uintAt s c
   number-short l = sized-short s c h e refl l refl ∙ sym (uint-is s c)
 
-  pub number-on : {v : ℕ} → 4 ≤ left → v ≡ uintOf (eqb (c .big) 1) 4 s (c .at) → record { value = v; next = movedTo c (c .at + 4) } ≡ uintAt s c
+  pub number-on : {v : ℕ} → 4 ≤ left → v ≡ uintOf (c .big) 4 s (c .at) → record { value = v; next = movedTo c (c .at + 4) } ≡ uintAt s c
   number-on l q = sized-on s c h e refl l q ∙ sym (uint-is s c)
 
 -- ---- starts
@@ -68,7 +68,7 @@ module _ (s : List ℕ) (rows row : ℕ) where
         via _ refl (
         started-off _ _ _ (λ z. omega arith)))))
 
-    module _ {v : ℕ} (l : 4 ≤ left) (q : v ≡ uintOf (eqb (st .next .big) 1) 4 s (st .next .at)) {ok : Bool} (t : ok ≡ startFits i (st .last) v rows) where
+    module _ {v : ℕ} (l : 4 ≤ left) (q : v ≡ uintOf (st .next .big) 4 s (st .next .at)) {ok : Bool} (t : ok ≡ startFits i (st .last) v rows) where
       pub start-wrong : ok ≡ false → record { last = 0; hit = 0; next = refusedAt (st .next) (st .next .at) 11 } ≡ startInto s rows row st i
       unfolding startInto
       start-wrong z =
@@ -129,7 +129,7 @@ module _ (s : List ℕ) (limit bytes hit : ℕ) where
         via _ refl (
         sym (settled-none _ _ (λ z. omega arith))))))
 
-    module _ {v : ℕ} (l : 4 ≤ left) (q : v ≡ uintOf (eqb (st .next .big) 1) 4 s (st .next .at)) {ok : Bool} (t : ok ≡ leb (v + bytes) limit) where
+    module _ {v : ℕ} (l : 4 ≤ left) (q : v ≡ uintOf (st .next .big) 4 s (st .next .at)) {ok : Bool} (t : ok ≡ leb (v + bytes) limit) where
       pub offset-wrong : ok ≡ false → record { value = 0; next = refusedAt (st .next) (st .next .at) 11 } ≡ offsetInto s limit bytes hit st i
       unfolding offsetInto
       offset-wrong z =

@@ -110,14 +110,9 @@ unfoldable pub columnPartsAt : List ℕ → Cursor → ℕ → ℕ → ℕ → �
 columnPartsAt s c limit rows row column bytes n =
     after (columnPartInto s limit rows row column bytes) (record { value = 0; next = c }) n
 
--- a cursor's number for the table's endianness
-abbrev pub orderOf : Bool → ℕ
-orderOf big = cond big 1 0
-
 -- The bucket of `size` bytes from a place of the file on, with so many rows and n columns in the table's order: what refuses it,
 -- and the offset of the value that the local row has in the column. "Bucket faults give 1 where the bucket ends, else 11."
 unfoldable pub bucketAt : List ℕ → ℕ → ℕ → Bool → ℕ → ℕ → ℕ → List ℕ → ℕ → Value
 bucketAt f at size big rows row column bytes n = do
-  order ← orderOf big
-  limit ← dataAt f (record { at = at; end = at + size; big = order; refused = 0 }) size
+  limit ← dataAt f (record { at = at; end = at + size; big = big; refused = 0 }) size
   columnPartsAt f (limit .next) (limit .value) rows row column bytes n

@@ -1,7 +1,7 @@
 -- Document 01, "IncrementalStMan", and Note 260, 3.4.3, Header: its fields in file order.
 use Prim.Native.Nat.{ℕ}
 use mathlib.Core.List.{List}
-use mathlib.Core.Bool.{Bool, cond}
+use mathlib.Core.Bool.{true, Bool, cond}
 use lib.Dec.{eqb}
 use lib.ListN.{length}
 use Rattle.bytes_at.specs.Bytes.{bytes}
@@ -36,8 +36,8 @@ headed c h =
     (record { size = h .size; count = h .count; «free_count» = h .«free_count»; «first_free» = h .«first_free»; refused = 0 })
     (record { size = 0; count = 0; «free_count» = 0; «first_free» = 0; refused = c .refused })
 
--- the header of a file whose header is in the byte order given (1: big endian), in a table of the endianness given
-unfoldable pub headerIn : List ℕ → ℕ → Bool → Header
+-- the header of a file that is written in the byte order given, in a table of the endianness given
+unfoldable pub headerIn : List ℕ → Bool → Bool → Header
 headerIn s order big = do
   room ← headerRoom (length s)
   m ← markAt s (record { at = 0; end = room; big = order; refused = 0 })
@@ -47,4 +47,4 @@ headerIn s order big = do
 
 -- "All big endian."
 abbrev pub headerAt : List ℕ → Bool → Header
-headerAt s big = headerIn s 1 big
+headerAt s big = headerIn s true big

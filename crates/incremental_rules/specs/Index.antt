@@ -24,9 +24,9 @@ indexed c count firsts buckets =
     (record { count = 0; firsts = 0; buckets = 0; refused = c .refused })
 
 -- "The ISMIndex (version 1, with mark): count n, Block of n + 1 first rows, Block of n bucket numbers (omitted by the note);
--- Block lengths that differ give 6", from a place on, in the byte order given (1: big endian), with first rows of so many bytes.
+-- Block lengths that differ give 6", from a place on, in the byte order given, with first rows of so many bytes.
 -- What stands after it is not read.
-unfoldable pub indexIn : List ℕ → ℕ → ℕ → ℕ → Index
+unfoldable pub indexIn : List ℕ → Bool → ℕ → ℕ → Index
 indexIn s order each at = do
   m ← markAt s (record { at = at; end = length s; big = order; refused = 0 })
   o ← opened s m (bytes "ISMIndex") 1 1
@@ -38,7 +38,7 @@ indexIn s order each at = do
 
 -- "All big endian"; first rows are uInts
 abbrev pub indexAt : List ℕ → ℕ → Index
-indexAt s at = indexIn s 1 4 at
+indexAt s at = indexIn s true 4 at
 
 -- "The ISMIndex stands after the last bucket"
 abbrev pub indexOf : List ℕ → Header → Index

@@ -37,7 +37,7 @@ use Rattle.incremental_rules.specs.declared.Index.{Index}
 use Rattle.incremental_rules.specs.Header.{fieldsAt, headed as incrementalHeaded, headerIn as incrementalHeaderIn, headerAt as incrementalHeader}
 use Rattle.incremental_rules.specs.Index.{indexed as incrementalIndexed, indexIn as incrementalIndexIn, indexAt as incrementalIndex}
 use Rattle.incremental_rules.specs.declared.Starts.{Starts}
-use Rattle.incremental_rules.specs.Bucket.{startInto, startsAt, offsetInto, offsetsAt, dataAt, columnPartAt, columnPartInto, columnPartsAt, orderOf, bucketAt}
+use Rattle.incremental_rules.specs.Bucket.{startInto, startsAt, offsetInto, offsetsAt, dataAt, columnPartAt, columnPartInto, columnPartsAt, bucketAt}
 use Rattle.incremental_rules.proofs.Accepted.{started-next}
 use Rattle.incremental_rules.proofs.AnyCell.{found-refused}
 use Rattle.incremental_rules.specs.declared.Cells.{Cells}
@@ -295,7 +295,7 @@ module _ (s : List ℕ) (c : Cursor) where
 pub described-low : (s : List ℕ) → describedAs s .refused ≤ 11
 unfolding describedAs refusedTable _>>=_
 described-low s =
-    let whole = judged-low (record { at = 0; end = length s; big = 1; refused = 0 }) 65536 (leb (length s) 65536) 4 (omega arith) in
+    let whole = judged-low (record { at = 0; end = length s; big = true; refused = 0 }) 65536 (leb (length s) 65536) 4 (omega arith) in
     let m = markAt s (wholeOf s) in
     let head = tableHeadAt s (opened s m (bytes "Table") 2 2 .next) in
     let n = tableDescHeadAt s (opened s (head .next) (bytes "TableDesc") 2 2 .next) in
@@ -332,7 +332,7 @@ headed-is c b i =
 pub header-low : (s : List ℕ) (big : Bool) → headerAt s big .refused ≤ 11
 unfolding headerIn _>>=_
 header-low s big =
-    let first : Cursor = record { at = 0; end = headerRoom (length s); big = 1; refused = 0 } in
+    let first : Cursor = record { at = 0; end = headerRoom (length s); big = true; refused = 0 } in
     let m = markAt s first in
     let b = bucketFieldsAt s m big in
     let last : Low first (closed (indexFieldsAt s (b .next) .next) m) =
@@ -358,7 +358,7 @@ indexed-is c all =
 pub index-low : (s : List ℕ) (n : ℕ) → indexAt s n .refused ≤ 11
 unfolding indexIn _>>=_
 index-low s n =
-    let first : Cursor = record { at = 0; end = length s; big = 1; refused = 0 } in
+    let first : Cursor = record { at = 0; end = length s; big = true; refused = 0 } in
     let all = setsAt s first Four n in
     let last : Low first (judged (all .next) (all .next .at) (eqb (all .next .at) (all .next .end)) 7) =
     sets-low s first Four n ⨟ judged-low _ _ _ 7 (omega arith) in
@@ -379,7 +379,7 @@ incremental-headed-is c h =
 pub incremental-header-low : (s : List ℕ) (big : Bool) → incrementalHeader s big .refused ≤ 11
 unfolding incrementalHeaderIn _>>=_
 incremental-header-low s big =
-    let first : Cursor = record { at = 0; end = headerRoom (length s); big = 1; refused = 0 } in
+    let first : Cursor = record { at = 0; end = headerRoom (length s); big = true; refused = 0 } in
     let m = markAt s first in
     let last : Low first (closed (fieldsAt s m big .next) m) = mark-low s first ⨟ fields-low s _ big ⨟ closed-low _ m in
     rw incremental-headed-is (last .low zero-le)
@@ -393,7 +393,7 @@ incremental-indexed-is c count firsts buckets =
 pub incremental-index-low : (s : List ℕ) (at : ℕ) → incrementalIndex s at .refused ≤ 11
 unfolding incrementalIndexIn _>>=_
 incremental-index-low s at =
-    let first : Cursor = record { at = at; end = length s; big = 1; refused = 0 } in
+    let first : Cursor = record { at = at; end = length s; big = true; refused = 0 } in
     let m = markAt s first in
     let n = uintAt s (opened s m (bytes "ISMIndex") 1 1 .next) in
     let firsts = blockAt s (n .next) (n .value + 1) 4 in
@@ -430,7 +430,7 @@ bucket-low : (f : List ℕ) (at size : ℕ) (big : Bool) (rows row column : ℕ)
     → bucketAt f at size big rows row column bytes n .next .refused ≤ 11
 unfolding bucketAt _>>=_
 bucket-low f at size big rows row column bytes n =
-    let first : Cursor = record { at = at; end = at + size; big = orderOf big; refused = 0 } in
+    let first : Cursor = record { at = at; end = at + size; big = big; refused = 0 } in
     let last : Low first (columnPartsAt f (dataAt f first size .next) (dataAt f first size .value) rows row column bytes n .next) =
     data-low f first size ⨟ parts-low f _ _ _ _ _ _ _ in
     last .low zero-le

@@ -101,7 +101,7 @@ pub fn read_index(text: &[u8], n: usize) -> Index
     let start = Cursor {
         at: 0,
         end: text.len(),
-        big: 1,
+        big: true,
         refused: 0,
     };
     let all = read_sets(text, start, Width::Four, n);

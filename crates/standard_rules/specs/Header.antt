@@ -90,8 +90,8 @@ headed c b i =
       refused = c .refused;
     })
 
--- the header of a file whose header is in the byte order given (1: big endian), in a table of the endianness given
-unfoldable pub headerIn : List ℕ → ℕ → Bool → Header
+-- the header of a file that is written in the byte order given, in a table of the endianness given
+unfoldable pub headerIn : List ℕ → Bool → Bool → Header
 headerIn s order big = do
   room ← headerRoom (length s)
   m ← markAt s (record { at = 0; end = room; big = order; refused = 0 })
@@ -102,7 +102,7 @@ headerIn s order big = do
 
 -- "All big endian."
 abbrev pub headerAt : List ℕ → Bool → Header
-headerAt s big = headerIn s 1 big
+headerAt s big = headerIn s true big
 
 -- "Bucket b starts at 512 + b x bucket size."
 abbrev pub bucketStart : ℕ → ℕ → ℕ

@@ -12,7 +12,7 @@ use Rattle.bytes_at.specs.declared.Width.{Width}
 use Rattle.bytes_at.specs.Bytes.{bytes}
 use Rattle.bytes_at.specs.Steps.{_>>=_, after}
 use Rattle.aipsio_rules.specs.declared.Cursor.{Cursor}
-use Rattle.aipsio_rules.specs.Field.{uintAt, numberAt, markAt, judged}
+use Rattle.aipsio_rules.specs.Field.{minusOne, uintAt, numberAt, markAt, judged}
 use Rattle.aipsio_rules.specs.Object.{opened, closed, blockAt, mapAt}
 use Rattle.standard_rules.specs.declared.SetRead.{SetRead}
 use Rattle.standard_rules.specs.declared.Set.{Set}
@@ -22,7 +22,7 @@ use Rattle.bytes_at.specs.declared.Width.the-variants.{Four}
 
 -- A link is a big endian Int. This one is -1: no bucket.
 abbrev pub noBucket : ℕ
-noBucket = 4294967295
+noBucket = minusOne
 
 -- the number of the next bucket, in the first 4 bytes of bucket b
 abbrev pub nextOf : List ℕ → ℕ → ℕ → ℕ
@@ -132,9 +132,9 @@ indexed c all =
     (record { sets = all .sets; refused = 0 })
     (record { sets = replicate 16 noSet; refused = c .refused })
 
--- the n sets of an index text in the byte order given (1: big endian), with last rows of the width given.
+-- the n sets of an index text in the byte order given, with last rows of the width given.
 -- 7 where the "index text has a length other than its fields use": "text left over fails at its first byte"
-unfoldable pub indexIn : List ℕ → ℕ → Width → ℕ → Index
+unfoldable pub indexIn : List ℕ → Bool → Width → ℕ → Index
 indexIn s order width n = do
   all ← setsAt s (record { at = 0; end = length s; big = order; refused = 0 }) width n
   e ← judged (all .next) (all .next .at) (eqb (all .next .at) (all .next .end)) 7
@@ -142,7 +142,7 @@ indexIn s order width n = do
 
 -- "All big endian"; last rows are uInts
 abbrev pub indexAt : List ℕ → ℕ → Index
-indexAt s n = indexIn s 1 Four n
+indexAt s n = indexIn s true Four n
 
 -- "Free chain (free list): exactly the stated number, first 4 bytes big endian, -1 ends it."
 unfoldable pub freeOk : List ℕ → ℕ → ℕ → ℕ → ℕ → Bool

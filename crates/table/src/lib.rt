@@ -69,7 +69,7 @@ pub fn describe(s: &[u8]) -> Description
     let whole = Cursor {
         at: 0,
         end: s.len(),
-        big: 1,
+        big: true,
         refused: 0,
     };
     let c = aipsio::judge(whole, 65536, s.len() <= 65536, 4);

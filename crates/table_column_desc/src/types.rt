@@ -70,7 +70,7 @@ pub fn cell_bits(t: DataType, array: bool, options: usize, elements: usize, maxi
 {
     let bits = t.element_bits();
     if array {
-        if options % 2 == 0 {
+        if options % 2 != 1 {
             return 64;
         }
         if bits == 0 {

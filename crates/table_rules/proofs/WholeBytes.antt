@@ -17,7 +17,7 @@ use Rattle.table_rules.specs.declared.data_type.DataType.{DataType}
 use Rattle.table_rules.specs.declared.data_type.Known.the-variants.{Of, Nothing}
 use Rattle.table_rules.specs.declared.ColumnType.{ColumnType}
 use Rattle.table_rules.specs.DataType.{nthType, typeName, isName, knownAt, withName}
-use Rattle.table_rules.specs.ColumnDesc.{typed, columnTypeOf, cellBits, columnTypeAt, columnHeadAt, columnRestAt, noColumn, firstNamed, columnInto, noColumns, columnsAt}
+use Rattle.table_rules.specs.ColumnDesc.{typed, columnTypeOf, isDirect, cellBits, columnTypeAt, columnHeadAt, columnRestAt, noColumn, firstNamed, columnInto, noColumns, columnsAt}
 use Rattle.table_rules.specs.declared.Column.{Column}
 use Rattle.table_rules.specs.declared.Columns.{Columns}
 use Rattle.table_rules.specs.declared.ColumnHead.{ColumnHead}
@@ -86,7 +86,7 @@ unfolding cellBits
 cell-whole t array options elements maximum w n =
     let each = times-even elements (t .bits) (w .whole n) in
     one-of array _ _
-    (one-of (eqb (options % 2) 0) 64 _ refl (one-of (eqb (t .bits) 0) 96 _ refl each))
+    (one-of (isDirect options) _ 64 (one-of (eqb (t .bits) 0) 96 _ refl each) refl)
     (one-of (eqb (t .bits) 0) _ _ (one-of (eqb maximum 0) 96 _ refl (eight maximum (maximum * 8) (omega arith))) each)
 
 -- ---- a column, and every column of a table

@@ -11,7 +11,7 @@ use Rattle.bytes_at.specs.Bytes.{bytes, sameBytes}
 use Rattle.table_rules.specs.DataType.{withName}
 use Rattle.bytes_at.specs.Steps.{_>>=_, after}
 use Rattle.aipsio_rules.specs.declared.Cursor.{Cursor}
-use Rattle.aipsio_rules.specs.Field.{judged, stringAt, versionAt, settled, codeAt, uintAt, skipped, flagAt, numberAt}
+use Rattle.aipsio_rules.specs.Field.{minusOne, judged, stringAt, versionAt, settled, codeAt, uintAt, skipped, flagAt, numberAt}
 use Rattle.table_rules.specs.declared.TypeRead.{TypeRead}
 use Rattle.table_rules.specs.declared.ColumnHead.{ColumnHead}
 use Rattle.aipsio_rules.specs.declared.Value.{Value}
@@ -70,9 +70,16 @@ notesAt s c = do
   group ← stringAt s (manager .next) 0 4096
   group .next
 
+-- Options are 1 (direct), 2 and 4 (fixed shape), added.
+abbrev pub isDirect : ℕ → Bool
+isDirect options = eqb (options % 2) 1
+
+abbrev pub isFixed : ℕ → Bool
+isFixed options = leb 4 options
+
 -- "For arrays, option 1 (direct) needs option 4 (fixed shape)."
 abbrev pub optionsFit : Bool → ℕ → Bool
-optionsFit array options = cond array (cond (eqb (options % 2) 1) (leb 4 options) true) true
+optionsFit array options = cond array (cond (isDirect options) (isFixed options) true) true
 
 -- "Options are 0 to 7", else 5
 unfoldable pub optionsAt : List ℕ → Cursor → Bool → Value
@@ -84,7 +91,7 @@ optionsAt s c array = do
 
 -- "A scalar has dimensionality 0 or -1"
 abbrev pub dimensionsFit : Bool → ℕ → Bool
-dimensionsFit array n = cond array true (cond (eqb n 0) true (eqb n 4294967295))
+dimensionsFit array n = cond array true (cond (eqb n 0) true (eqb n minusOne))
 
 -- the dimensionality, else 5
 unfoldable pub dimensionsAt : List ℕ → Cursor → Bool → Value
@@ -98,7 +105,7 @@ dimensionsAt s c array = do
 unfoldable pub elementsAt : List ℕ → Cursor → Bool → ℕ → ℕ → Value
 elementsAt s c array options dimensions =
     cond array
-    (cond (leb 4 options)
+    (cond (isFixed options)
     (shapeAt s c dimensions)
     (do
       d ← ipositionAt s c
@@ -131,11 +138,11 @@ tailAt s c array bits = do
   settled (m .value) d
 
 -- "Cell bits: scalars and direct arrays, elements x size x 8, a Bool element being one bit; String scalar, maximum x 8 if
--- above 0, else 96; direct String array 96; other arrays 64." An odd option is direct.
+-- above 0, else 96; direct String array 96; other arrays 64."
 unfoldable pub cellBits : DataType → Bool → ℕ → ℕ → ℕ → ℕ
 cellBits t array options elements maximum =
     cond array
-    (cond (eqb (options % 2) 0) 64 (cond (eqb (t .bits) 0) 96 (elements * t .bits)))
+    (cond (isDirect options) (cond (eqb (t .bits) 0) 96 (elements * t .bits)) 64)
     (cond (eqb (t .bits) 0) (cond (eqb maximum 0) 96 (maximum * 8)) (elements * t .bits))
 
 -- the rest of a ColumnDesc, past its name

@@ -6,7 +6,7 @@ use mathlib.Core.Bool.{cond, Bool, true, false}
 use lib.ListN.{getD, take, drop, set, replicate}
 use Rattle.bytes_at.specs.Steps.{_>>=_, after}
 use Rattle.aipsio_rules.specs.declared.Cursor.{Cursor}
-use Rattle.aipsio_rules.specs.Field.{judged, uintAt, numberAt, versionAt, stringAt, flagAt, textAt}
+use Rattle.aipsio_rules.specs.Field.{minusTwo, judged, uintAt, numberAt, versionAt, stringAt, flagAt, textAt}
 use Rattle.table_rules.specs.declared.ColumnSetHead.{ColumnSetHead}
 use Rattle.bytes_at.specs.Bytes.{bytes, sameBytes}
 use Rattle.table_rules.specs.declared.Kind.{Kind}
@@ -25,7 +25,7 @@ use Rattle.bytes_at.specs.Number.{uintOf}
 -- "ColumnSet version -2", the row count, which is the table's (else 6), the highest sequence number, "managers 1 to 16"
 unfoldable pub columnSetHeadAt : List ℕ → Cursor → ℕ → ColumnSetHead
 columnSetHeadAt s c rows = do
-  v ← versionAt s c 4294967294 4294967294
+  v ← versionAt s c minusTwo minusTwo
   r ← numberAt s (v .next) 4 0 2147483647
   k ← judged (r .next) (v .next .at) (eqb (r .value) rows) 6
   highest ← uintAt s k

@@ -3,7 +3,7 @@ use Prim.Native.Nat.{ℕ}
 use mathlib.Core.List.{List}
 use lib.ListN.{length, replicate, getD}
 use lib.Dec.{leb, eqb, ltb}
-use mathlib.Core.Bool.{false, cond}
+use mathlib.Core.Bool.{true, false, cond}
 use Rattle.bytes_at.specs.Bytes.{bytes}
 use Rattle.aipsio_rules.specs.declared.Cursor.{Cursor}
 use Rattle.aipsio_rules.specs.Field.{judged, numberAt, codeAt, nameAt, stringAt, markAt}
@@ -21,7 +21,7 @@ use Rattle.bytes_at.specs.Stages.{_▷_, orNo}
 
 -- the bytes of table.dat, AipsIO's own byte order: "at most 65,536 bytes (else 4, before anything is read)"
 abbrev pub wholeOf : List ℕ → Cursor
-wholeOf s = judged (record { at = 0; end = length s; big = 1; refused = 0 }) 65536 (leb (length s) 65536) 4
+wholeOf s = judged (record { at = 0; end = length s; big = true; refused = 0 }) 65536 (leb (length s) 65536) 4
 
 -- "rows 0 to 2,147,483,647", endianness 0 or 1 (else 5), "table type PlainTable"
 unfoldable pub tableHeadAt : List ℕ → Cursor → TableHead

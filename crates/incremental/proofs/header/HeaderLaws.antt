@@ -61,10 +61,10 @@ module _ (c : Cursor) (h : HeaderFields) where
       ]
 
 -- Every header's numbers are in range.
-pub header-bounds : (s : List ℕ) (order : ℕ) (big : Bool) → HeaderBounds (headerIn s order big)
+pub header-bounds : (s : List ℕ) (order : Bool) (big : Bool) → HeaderBounds (headerIn s order big)
 unfolding headerIn _>>=_
 header-bounds s order big = headed-bounds _ _ (λ e. clean-before (closed-keeps _ _) e) (field-bounds s _ big)
 
-pub header-answered : (s : List ℕ) (order : ℕ) (big : Bool) {h : Header} → h ≡ headerIn s order big → HeaderWords h
+pub header-answered : (s : List ℕ) (order : Bool) (big : Bool) {h : Header} → h ≡ headerIn s order big → HeaderWords h
     → (h ≡ headerIn s order big) × (HeaderBounds h × HeaderWords h)
 header-answered s order big e w = (e, (rw e (header-bounds s order big), w))

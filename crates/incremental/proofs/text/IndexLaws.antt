@@ -1,5 +1,6 @@
 -- The lists of an index that is not refused lie in the file.
 -- Assumes nothing.
+use mathlib.Core.Bool.{Bool}
 use mathlib.Core.Path.{_≡_}
 use mathlib.Core.List.{List}
 use Prim.Native.Nat.{ℕ, _+_}
@@ -40,7 +41,7 @@ module _ (c : Cursor) (count firsts buckets : ℕ) where
         | no e ↦ absurd (e (rw (← (indexed-off e)) at z))
       ]
 
-module _ (s : List ℕ) (order each at : ℕ) where
+module _ (s : List ℕ) (order : Bool) (each at : ℕ) where
   pub index-inside : indexIn s order each at .refused ≡ 0 → IndexInside (length s) each (indexIn s order each at)
   unfolding indexIn _>>=_
   index-inside z =

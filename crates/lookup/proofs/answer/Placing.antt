@@ -1,5 +1,6 @@
 -- What a file that is accepted shows of its sets.
 -- Assumes nothing.
+use mathlib.Core.Bool.{true}
 use mathlib.Core.Path.{_≡_}
 use mathlib.Core.List.{List}
 use Prim.Native.Nat.{ℕ, _≤_, _<_}
@@ -57,8 +58,8 @@ module _ (d : Description) (sequence : ℕ) (f : List ℕ) (refused l : ℕ) whe
   -- its lists lie in the text
   pub set-inside : refusalOf d sequence f refused l ≡ 0 → (k : ℕ) → k < headerAt f (d .big) .sets
       → SetInside (length (indexTextOf f (headerAt f (d .big)))) 4 (getD (indexAt (indexTextOf f (headerAt f (d .big))) (headerAt f (d .big) .sets) .sets) k noSet)
-  set-inside z k h = index-inside _ 1 Four _ (header-bounds f 1 (d .big) .sets-most) (index-passed z) k h
+  set-inside z k h = index-inside _ true Four _ (header-bounds f true (d .big) .sets-most) (index-passed z) k h
 
   pub size-most : mapOf d sequence f .size ≤ 1048576
   unfolding mapOf
-  size-most = header-bounds f 1 (d .big) .size-most
+  size-most = header-bounds f true (d .big) .size-most

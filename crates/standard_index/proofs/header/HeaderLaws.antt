@@ -132,7 +132,7 @@ module _ (c : Cursor) (b : BucketFields) (i : IndexFields) where
       ]
 
 -- Every header's numbers are in range.
-pub header-bounds : (s : List ℕ) (order : ℕ) (big : Bool) → HeaderBounds (headerIn s order big)
+pub header-bounds : (s : List ℕ) (order : Bool) (big : Bool) → HeaderBounds (headerIn s order big)
 unfolding headerIn _>>=_
 header-bounds s order big =
     headed-bounds _ _ _
@@ -141,6 +141,6 @@ header-bounds s order big =
     (bucket-bounds s _ big)
     (index-bounds s _)
 
-pub header-answered : (s : List ℕ) (order : ℕ) (big : Bool) {h : Header} → h ≡ headerIn s order big → HeaderWords h
+pub header-answered : (s : List ℕ) (order : Bool) (big : Bool) {h : Header} → h ≡ headerIn s order big → HeaderWords h
     → (h ≡ headerIn s order big) × (HeaderBounds h × HeaderWords h)
 header-answered s order big e w = (e, (rw e (header-bounds s order big), w))

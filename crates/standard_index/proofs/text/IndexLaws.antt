@@ -115,7 +115,7 @@ indexed-clean c all e = go (eqb (c .refused) 0) refl
     go true q = (eqb-true (c .refused) 0 q, rw q)
     go false q = absurd (eqb-false (c .refused) 0 q (rw q at e))
 
-module _ (s : List ℕ) (order : ℕ) (width : Width) (n : ℕ) (h : n ≤ 16) where
+module _ (s : List ℕ) (order : Bool) (width : Width) (n : ℕ) (h : n ≤ 16) where
   -- The lists of each set of an index text that is not refused lie in the text.
   pub index-inside : indexIn s order width n .refused ≡ 0 → (k : ℕ) → k < n → SetInside (length s) (bytesOf width) (getD (indexIn s order width n .sets) k noSet)
   unfolding indexIn setsAt _>>=_

@@ -40,7 +40,7 @@ text =
 -- the cursor past a header in 512 bytes
 abbrev pastHeader : List ℕ → Cursor
 pastHeader f = do
-  m ← markAt f (record { at = 0; end = 512; big = 1; refused = 0 })
+  m ← markAt f (record { at = 0; end = 512; big = true; refused = 0 })
   b ← bucketFieldsAt f m true
   i ← indexFieldsAt f (b .next)
   closed (i .next) m
@@ -61,7 +61,7 @@ unfolding bigFrom uintOf sameBytes skipped judged settled sizedAt uintAt rangedA
 small-header = refl
 
 -- "K: the StandardStMan header object is 70 bytes, 74 with mark."
-pub small-header-ends : pastHeader (header ++ replicate 758 0) ≡ record { at = 74; end = 512; big = 1; refused = 0 }
+pub small-header-ends : pastHeader (header ++ replicate 758 0) ≡ record { at = 74; end = 512; big = true; refused = 0 }
 unfolding bigFrom uintOf sameBytes skipped judged settled sizedAt uintAt rangedAt markAt textBefore textAt nameAt entered opened closed bucketFieldsAt indexFieldsAt _>>=_
 small-header-ends = refl
 

@@ -18,7 +18,7 @@ use Rattle.table_rules.specs.DataType.{nthType, typeName, isName, knownAt, with
 use Rattle.table_rules.specs.declared.data_type.DataType.{DataType}
 use Rattle.table_rules.specs.declared.data_type.Known.the-variants.{Nothing}
 use Rattle.table_rules.proofs.data_type.Cases.{Each, each}
-use Rattle.table_rules.specs.ColumnDesc.{typed, columnTypeOf, cellBits}
+use Rattle.table_rules.specs.ColumnDesc.{typed, columnTypeOf, isDirect, cellBits}
 
 module _ (P : DataType → Type 0) (h : Each (λ (i : ℕ). P (nthType i)) 12) where
   at-place : (array : Bool) (i : ℕ) → P (typed array (knownAt i) .datatype)
@@ -61,5 +61,5 @@ some false p q = q
 pub cell-bits-positive : (t : DataType) (array : Bool) (options elements maximum : ℕ) → 0 < elements → 0 < cellBits t array options elements maximum
 unfolding cellBits
 cell-bits-positive t true options elements maximum h =
-    some (eqb (options % 2) 0) (lit< tt) (positive (t .bits) elements h (lit< tt))
+    some (isDirect options) (positive (t .bits) elements h (lit< tt)) (lit< tt)
 cell-bits-positive t false options elements maximum h = positive (t .bits) elements h (of-text maximum)

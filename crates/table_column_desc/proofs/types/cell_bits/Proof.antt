@@ -12,10 +12,10 @@ unfolding cellBits
 cell-bits-spec =
     tie.close (tie.spec
     (λ c. search needs)
-    (λ c. (rw (c .before .if1 .taken, eq-eqb _ _ (c .if2 .taken)), omega arith))
-    (λ c. (rw (← (c .before .before .before .element-bits .ensures .0), c .before .before .if1 .taken, ne-eqb _ _ (c .before .if2 .left), eq-eqb _ _ (c .if3 .taken)), omega arith))
+    (λ c. (rw (c .before .if1 .taken, ne-eqb _ _ (c .if2 .taken)), omega arith))
+    (λ c. (rw (← (c .before .before .before .element-bits .ensures .0), c .before .before .if1 .taken, eq-eqb _ _ (c .before .if2 .left), eq-eqb _ _ (c .if3 .taken)), omega arith))
     (λ c. product-fits (c .before .before .before .before .pre .0) (omega arith))
-    (λ c. (rw (← (c .before .before .before .element-bits .ensures .0), c .before .before .if1 .taken, ne-eqb _ _ (c .before .if2 .left), ne-eqb _ _ (c .if3 .left)), product (c .before .before .before .before .pre .0) (omega arith)))
+    (λ c. (rw (← (c .before .before .before .element-bits .ensures .0), c .before .before .if1 .taken, eq-eqb _ _ (c .before .if2 .left), ne-eqb _ _ (c .if3 .left)), product (c .before .before .before .before .pre .0) (omega arith)))
     (λ c. product-fits (c .before .before .before .pre .0) (omega arith))
     (λ c. (rw (← (c .before .before .element-bits .ensures .0), c .before .if1 .left, ne-eqb _ _ (c .if4 .taken)), product (c .before .before .before .pre .0) (omega arith)))
     (λ c. (rw (← (c .before .before .before .element-bits .ensures .0), c .before .before .if1 .left, eq-eqb _ _ (c .before .if4 .left), eq-eqb _ _ (c .if5 .taken)), omega arith))
