@@ -4,10 +4,11 @@
 ghost use mathlib.Core.Path.{_≡_};
 ghost use mathlib.Core.List.{[], _∷_};
 ghost use lib.ListN.{length};
-ghost use Rattle.table_rules.specs.Table.{describedAs, columnNamed};
-ghost use Rattle.c_numbers.specs.Answers.{orShort, written, summaryOf, columnRefusal, columnNumbers, managerRefusal, managerNumbers, positionRefusal, positionNumber, roomLeft, ifNine};
+ghost use Rattle.table_rules.specs.Table.{describedAs, columnNamed, positionRefusal, positionValue};
+ghost use Rattle.c_numbers.specs.Answers.{orShort, written, summaryOf, columnRefusal, columnNumbers, managerRefusal, managerNumbers, roomLeft, ifNine};
 ghost use Rattle.lookup_rules.specs.Questions.{answerOf, roomAfter};
 ghost use Rattle.c_numbers.specs.Numbers.{planNumbers, placeNumbers, viewNumbers, planFrom};
+use lookup_rules::Asked;
 use lookup_rules::Question;
 
 // Row count, byte order (1: big endian), number of columns, number of managers: 4 numbers.
@@ -61,7 +62,7 @@ pub extern "C" fn hv_manager(table: &[u8], index: u64, out: &mut [u64]) -> u64
 // The position of the column with a name: 1 number. No such column: 8.
 #[no_mangle]
 pub extern "C" fn hv_column_by_name(table: &[u8], name: &[u8], out: &mut [u64]) -> u64
-    ensures { λ r. ⌜ (r ≡ orShort (positionNumber (columnNamed (now (table .entry)) (now (name .entry))) ∷ []) (now (out .entry)) (positionRefusal (columnNamed (now (table .entry)) (now (name .entry))))) × (now (out .exit) ≡ written (positionNumber (columnNamed (now (table .entry)) (now (name .entry))) ∷ []) (now (out .entry))) ⌝ }
+    ensures { λ r. ⌜ (r ≡ orShort (positionValue (columnNamed (now (table .entry)) (now (name .entry))) ∷ []) (now (out .entry)) (positionRefusal (columnNamed (now (table .entry)) (now (name .entry))))) × (now (out .exit) ≡ written (positionValue (columnNamed (now (table .entry)) (now (name .entry))) ∷ []) (now (out .entry))) ⌝ }
 {
     let p = table::names::column_by_name(table, name);
     let refused = c_numbers::values::position_refusal(p);
@@ -132,12 +133,12 @@ pub extern "C" fn hv_place(
     room: &mut [u8],
     out: &mut [u64],
 ) -> u64
-    ensures { λ r. ⌜ (r ≡ orShort (placeNumbers (answerOf (now (table .entry)) (now (file .entry)) (Question.Place row position) (length (now (room .entry))))) (now (out .entry)) (answerOf (now (table .entry)) (now (file .entry)) (Question.Place row position) (length (now (room .entry))) .refused)) × (now (out .exit) ≡ written (placeNumbers (answerOf (now (table .entry)) (now (file .entry)) (Question.Place row position) (length (now (room .entry))))) (now (out .entry))) × (now (room .exit) ≡ roomLeft 2 (now (out .entry)) (now (room .entry)) (roomAfter (now (table .entry)) (now (file .entry)) (Question.Place row position) (length (now (room .entry))))) ⌝ }
+    ensures { λ r. ⌜ (r ≡ orShort (placeNumbers (answerOf (now (table .entry)) (now (file .entry)) (Question.Place row (Asked.Position position)) (length (now (room .entry))))) (now (out .entry)) (answerOf (now (table .entry)) (now (file .entry)) (Question.Place row (Asked.Position position)) (length (now (room .entry))) .refused)) × (now (out .exit) ≡ written (placeNumbers (answerOf (now (table .entry)) (now (file .entry)) (Question.Place row (Asked.Position position)) (length (now (room .entry))))) (now (out .entry))) × (now (room .exit) ≡ roomLeft 2 (now (out .entry)) (now (room .entry)) (roomAfter (now (table .entry)) (now (file .entry)) (Question.Place row (Asked.Position position)) (length (now (room .entry))))) ⌝ }
 {
     answer_place(
         table,
         file,
-        Question::Place(row as usize, position as usize),
+        Question::Place(row as usize, Asked::Position(position as usize)),
         room,
         out,
     )
@@ -153,7 +154,7 @@ pub extern "C" fn hv_place_planned(
     room: &mut [u8],
     out: &mut [u64],
 ) -> u64
-    ensures { λ r. ⌜ (r ≡ ifNine (now (plan .entry)) 255 (orShort (placeNumbers (answerOf (now (table .entry)) (now (file .entry)) (Question.PlacePlanned row (planFrom (now (plan .entry)))) (length (now (room .entry))))) (now (out .entry)) (answerOf (now (table .entry)) (now (file .entry)) (Question.PlacePlanned row (planFrom (now (plan .entry)))) (length (now (room .entry))) .refused))) × (now (out .exit) ≡ ifNine (now (plan .entry)) (now (out .entry)) (written (placeNumbers (answerOf (now (table .entry)) (now (file .entry)) (Question.PlacePlanned row (planFrom (now (plan .entry)))) (length (now (room .entry))))) (now (out .entry)))) × (now (room .exit) ≡ ifNine (now (plan .entry)) (now (room .entry)) (roomLeft 2 (now (out .entry)) (now (room .entry)) (roomAfter (now (table .entry)) (now (file .entry)) (Question.PlacePlanned row (planFrom (now (plan .entry)))) (length (now (room .entry)))))) ⌝ }
+    ensures { λ r. ⌜ (r ≡ ifNine (now (plan .entry)) 255 (orShort (placeNumbers (answerOf (now (table .entry)) (now (file .entry)) (Question.Place row (Asked.Planned (planFrom (now (plan .entry))))) (length (now (room .entry))))) (now (out .entry)) (answerOf (now (table .entry)) (now (file .entry)) (Question.Place row (Asked.Planned (planFrom (now (plan .entry))))) (length (now (room .entry))) .refused))) × (now (out .exit) ≡ ifNine (now (plan .entry)) (now (out .entry)) (written (placeNumbers (answerOf (now (table .entry)) (now (file .entry)) (Question.Place row (Asked.Planned (planFrom (now (plan .entry))))) (length (now (room .entry))))) (now (out .entry)))) × (now (room .exit) ≡ ifNine (now (plan .entry)) (now (room .entry)) (roomLeft 2 (now (out .entry)) (now (room .entry)) (roomAfter (now (table .entry)) (now (file .entry)) (Question.Place row (Asked.Planned (planFrom (now (plan .entry))))) (length (now (room .entry)))))) ⌝ }
 {
     if plan.len() < 9 {
         return 255;
@@ -162,7 +163,7 @@ pub extern "C" fn hv_place_planned(
     answer_place(
         table,
         file,
-        Question::PlacePlanned(row as usize, p),
+        Question::Place(row as usize, Asked::Planned(p)),
         room,
         out,
     )
@@ -178,12 +179,12 @@ pub extern "C" fn hv_view(
     room: &mut [u8],
     out: &mut [u64],
 ) -> u64
-    ensures { λ r. ⌜ (r ≡ orShort (viewNumbers (answerOf (now (table .entry)) (now (file .entry)) (Question.View row position) (length (now (room .entry))))) (now (out .entry)) (answerOf (now (table .entry)) (now (file .entry)) (Question.View row position) (length (now (room .entry))) .refused)) × (now (out .exit) ≡ written (viewNumbers (answerOf (now (table .entry)) (now (file .entry)) (Question.View row position) (length (now (room .entry))))) (now (out .entry))) × (now (room .exit) ≡ roomLeft 2 (now (out .entry)) (now (room .entry)) (roomAfter (now (table .entry)) (now (file .entry)) (Question.View row position) (length (now (room .entry))))) ⌝ }
+    ensures { λ r. ⌜ (r ≡ orShort (viewNumbers (answerOf (now (table .entry)) (now (file .entry)) (Question.View row (Asked.Position position)) (length (now (room .entry))))) (now (out .entry)) (answerOf (now (table .entry)) (now (file .entry)) (Question.View row (Asked.Position position)) (length (now (room .entry))) .refused)) × (now (out .exit) ≡ written (viewNumbers (answerOf (now (table .entry)) (now (file .entry)) (Question.View row (Asked.Position position)) (length (now (room .entry))))) (now (out .entry))) × (now (room .exit) ≡ roomLeft 2 (now (out .entry)) (now (room .entry)) (roomAfter (now (table .entry)) (now (file .entry)) (Question.View row (Asked.Position position)) (length (now (room .entry))))) ⌝ }
 {
     answer_view(
         table,
         file,
-        Question::View(row as usize, position as usize),
+        Question::View(row as usize, Asked::Position(position as usize)),
         room,
         out,
     )
@@ -199,7 +200,7 @@ pub extern "C" fn hv_view_planned(
     room: &mut [u8],
     out: &mut [u64],
 ) -> u64
-    ensures { λ r. ⌜ (r ≡ ifNine (now (plan .entry)) 255 (orShort (viewNumbers (answerOf (now (table .entry)) (now (file .entry)) (Question.ViewPlanned row (planFrom (now (plan .entry)))) (length (now (room .entry))))) (now (out .entry)) (answerOf (now (table .entry)) (now (file .entry)) (Question.ViewPlanned row (planFrom (now (plan .entry)))) (length (now (room .entry))) .refused))) × (now (out .exit) ≡ ifNine (now (plan .entry)) (now (out .entry)) (written (viewNumbers (answerOf (now (table .entry)) (now (file .entry)) (Question.ViewPlanned row (planFrom (now (plan .entry)))) (length (now (room .entry))))) (now (out .entry)))) × (now (room .exit) ≡ ifNine (now (plan .entry)) (now (room .entry)) (roomLeft 2 (now (out .entry)) (now (room .entry)) (roomAfter (now (table .entry)) (now (file .entry)) (Question.ViewPlanned row (planFrom (now (plan .entry)))) (length (now (room .entry)))))) ⌝ }
+    ensures { λ r. ⌜ (r ≡ ifNine (now (plan .entry)) 255 (orShort (viewNumbers (answerOf (now (table .entry)) (now (file .entry)) (Question.View row (Asked.Planned (planFrom (now (plan .entry))))) (length (now (room .entry))))) (now (out .entry)) (answerOf (now (table .entry)) (now (file .entry)) (Question.View row (Asked.Planned (planFrom (now (plan .entry))))) (length (now (room .entry))) .refused))) × (now (out .exit) ≡ ifNine (now (plan .entry)) (now (out .entry)) (written (viewNumbers (answerOf (now (table .entry)) (now (file .entry)) (Question.View row (Asked.Planned (planFrom (now (plan .entry))))) (length (now (room .entry))))) (now (out .entry)))) × (now (room .exit) ≡ ifNine (now (plan .entry)) (now (room .entry)) (roomLeft 2 (now (out .entry)) (now (room .entry)) (roomAfter (now (table .entry)) (now (file .entry)) (Question.View row (Asked.Planned (planFrom (now (plan .entry))))) (length (now (room .entry)))))) ⌝ }
 {
     if plan.len() < 9 {
         return 255;
@@ -208,7 +209,7 @@ pub extern "C" fn hv_view_planned(
     answer_view(
         table,
         file,
-        Question::ViewPlanned(row as usize, p),
+        Question::View(row as usize, Asked::Planned(p)),
         room,
         out,
     )

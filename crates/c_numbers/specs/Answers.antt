@@ -11,8 +11,6 @@ use Rattle.table_rules.specs.declared.Binding.{Binding}
 use Rattle.table_rules.specs.declared.Manager.{Manager}
 use Rattle.table_rules.specs.ColumnSet.{noManager, noBinding}
 use Rattle.table_rules.specs.declared.Description.{Description}
-use Rattle.table_rules.specs.declared.Position.{Position}
-use Rattle.table_rules.specs.declared.Position.the-variants.{At, Refused}
 use Rattle.c_numbers.specs.Numbers.{flagOf, oneColumn, oneManager}
 
 -- the number given: 255 where `out` is too short for the values
@@ -55,14 +53,6 @@ columnNumbers d position =
 
 abbrev pub managerNumbers : Description → ℕ → List ℕ
 managerNumbers d index = oneManager (pickedManager (d .managers) (d .«manager_count») index)
-
-abbrev pub positionRefusal : Position → ℕ
-positionRefusal (At k) = 0
-positionRefusal (Refused n) = n
-
-abbrev pub positionNumber : Position → ℕ
-positionNumber (At k) = k
-positionNumber (Refused n) = 0
 
 -- what is given for fewer than nine numbers, and for a plan
 unfoldable pub ifNine : {A : Type 0} → List ℕ → A → A → A

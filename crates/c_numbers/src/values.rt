@@ -1,7 +1,8 @@
 // What C gets and gives: answers as numbers, and a plan from its nine numbers.
 ghost use mathlib.Core.Path.{_≡_};
 ghost use Prim.Native.Nat.{_≤_};
-ghost use Rattle.c_numbers.specs.Answers.{missing, pickedColumn, pickedBinding, pickedManager, orShort, written, positionRefusal, positionNumber};
+ghost use Rattle.table_rules.specs.Table.{positionRefusal, positionValue};
+ghost use Rattle.c_numbers.specs.Answers.{missing, pickedColumn, pickedBinding, pickedManager, orShort, written};
 use table_rules::Binding;
 use table_rules::Column;
 use table_rules::Manager;
@@ -84,7 +85,7 @@ pub fn position_refusal(p: Position) -> u64
 }
 
 pub fn position_number(p: Position) -> u64
-    ensures { λ r. ⌜ r ≡ positionNumber p ⌝ }
+    ensures { λ r. ⌜ r ≡ positionValue p ⌝ }
 {
     match p {
         Position::At(k) => k as u64,

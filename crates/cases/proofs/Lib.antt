@@ -1,2 +1,2 @@
 -- The cases.
-pub mod Cases
+pub mod Computed

@@ -1,2 +1,3 @@
--- The bytes of the small file.
+-- The small file, and its cases.
 pub mod SmallFile
+pub mod Cases

@@ -9,33 +9,33 @@ use lib.ListN.{length, take}
 use lib.Seq.{length-take-le}
 use borrow.Author.Tests.{ne-eqb}
 use Rattle.standard_rules.specs.Place.{Bits}
-use Rattle.lookup_rules.specs.declared.Question.{Question}
+use Rattle.lookup_rules.specs.declared.Request.{Request}
+use Rattle.lookup_rules.specs.declared.Question.the-variants.{View}
 use Rattle.lookup_rules.specs.declared.Asked.{Asked}
 use Rattle.lookup_rules.specs.declared.Answer.{Answer}
 use Rattle.lookup_rules.specs.declared.Staged.{Staged}
-use Rattle.lookup_rules.specs.Questions.{answered, answerOf}
-use Rattle.lookup_rules.specs.Views.{viewed}
+use Rattle.lookup_rules.specs.Questions.{requestOf, answered, answerFor, answerOf}
 use Rattle.lookup_rules.proofs.Stages.{answer-refused}
 use Rattle.lookup_rules.proofs.Views.{every-view}
 
-zeros : (s : Staged) (b : Bits) → (s .refused ≡ 0 → ⊥) → answered s b .first ≡ 0
+zeros : (r : Request) (s : Staged) (b : Bits) → (s .refused ≡ 0 → ⊥) → answered r s b .first ≡ 0
 unfolding answered
-zeros s b h = rw (ne-eqb (s .refused) 0 h)
+zeros r s b h = rw (ne-eqb (s .refused) 0 h)
 
-no-first : (t f : List ℕ) (q : Question) (l : ℕ) → (answerOf t f q l .refused ≡ 0 → ⊥) → answerOf t f q l .first ≡ 0
-unfolding answerOf
-no-first t f q l h = zeros _ _ (λ e. h (answer-refused t f q l ∙ e))
+no-first : (t f : List ℕ) (r : Request) (l : ℕ) → (answerFor t f r l .refused ≡ 0 → ⊥) → answerFor t f r l .first ≡ 0
+unfolding answerFor
+no-first t f r l h = zeros _ _ _ (λ e. h (answer-refused t f r l ∙ e))
 
 -- of every view, refused or not
-pub within : (t f : List ℕ) (l row : ℕ) (a : Asked) → answerOf t f (viewed row a) l .first / 8 ≤ length f
-within t f l row a = elim (ℕ-discrete (answerOf t f (viewed row a) l .refused) 0) [
+pub within : (t f : List ℕ) (l row : ℕ) (a : Asked) → answerOf t f (View row a) l .first / 8 ≤ length f
+within t f l row a = elim (ℕ-discrete (answerOf t f (View row a) l .refused) 0) [
   | yes e ↦ omega (arith, every-view t f l row a e .there)
-  | no h ↦ omega (arith, no-first t f (viewed row a) l h)
+  | no h ↦ omega (arith, no-first t f (requestOf (View row a)) l h)
 ]
 
 -- where a part begins of an answer that is one of View
-pub begins : (p : ℕ × ℕ) (t f : List ℕ) (l row : ℕ) (a : Asked) {r : ℕ × ℕ} {x : Answer} → x ≡ answerOf t f (viewed row a) l
-    → _≡_ {A = ℕ × ℕ} r (p .0, p .1 + length (take (x .first / 8) f)) → _≡_ {A = ℕ × ℕ} r (p .0, p .1 + answerOf t f (viewed row a) l .first / 8)
+pub begins : (p : ℕ × ℕ) (t f : List ℕ) (l row : ℕ) (a : Asked) {r : ℕ × ℕ} {x : Answer} → x ≡ answerOf t f (View row a) l
+    → _≡_ {A = ℕ × ℕ} r (p .0, p .1 + length (take (x .first / 8) f)) → _≡_ {A = ℕ × ℕ} r (p .0, p .1 + answerOf t f (View row a) l .first / 8)
 begins p t f l row a e h =
     h ∙ ap (λ (y : Answer). (p .0, p .1 + length (take (y .first / 8) f))) e
     ∙ ap (λ (k : ℕ). (p .0, p .1 + k)) (length-take-le _ f (within t f l row a))

@@ -7,9 +7,8 @@ use lib.ListN.{length, replicate}
 use Rattle.lookup_rules.specs.declared.Staged.{Staged}
 use Rattle.standard_index.specs.Bounds.{SetInside}
 use Rattle.standard.specs.Bit.{bitByHalving}
-use Rattle.lookup_rules.specs.declared.Question.{Question}
-use Rattle.lookup_rules.specs.Questions.{rowOf, asksCell, answered}
-use Rattle.standard_rules.specs.Place.{Bits}
+use Rattle.lookup_rules.specs.declared.Request.{Request}
+use Rattle.lookup_rules.specs.Questions.{answered}
 use Rattle.lookup_rules.specs.declared.Answer.{Answer}
 
 -- "It is all zero after every refusal and for every IncrementalStMan file"
@@ -29,16 +28,13 @@ pub record Findable (text : List ℕ) (s : Staged) (row : ℕ) : Type 0 where
   pub row-most : row ≤ 2147483647
 
 -- the first bit of the cell, 0 where none is asked for or the question is refused
-unfoldable pub cellBit : List ℕ → Staged → Question → ℕ
-cellBit text s q =
+unfoldable pub cellBit : List ℕ → Staged → Request → ℕ
+cellBit text s r =
     let there = s .first in
-    let here = bitByHalving text (s .set) (s .plan .size) (s .plan .offset) (s .plan .bits) (rowOf q) in
+    let here = bitByHalving text (s .set) (s .plan .size) (s .plan .offset) (s .plan .bits) (r .row) in
     let cell = cond (s .incremental) there here in
-    cond (eqb (s .refused) 0 && asksCell q) cell 0
+    cond (eqb (s .refused) 0 && r .cell) cell 0
 
 -- the answer with a first bit
-unfoldable pub answerWith : Staged → Question → ℕ → Answer
-answerWith s q first =
-    let cell : Bits = record { first = first; count = s .plan .bits } in
-    let none : Bits = record { first = 0; count = 0 } in
-    answered s (cond (asksCell q) cell none)
+abbrev pub answerWith : Request → Staged → ℕ → Answer
+answerWith r s first = answered r s (record { first = first; count = s .plan .bits })

@@ -1,12 +1,12 @@
 // The answer of a question that all stages are known of, and the one place that clears the room (document 01, "The questions" and
 // "Refusal numbers").
 ghost use mathlib.Core.Path.{_≡_};
-ghost use mathlib.Core.Bool.{false};
-ghost use lib.Dec.{T};
+ghost use mathlib.Core.Bool.{true, false, cond};
+ghost use Rattle.lookup_rules.specs.Questions.{noPlan};
 ghost use Rattle.lookup.specs.Answering.{keepsText, roomSettled, Findable, cellBit, answerWith};
-ghost use Rattle.lookup_rules.specs.Questions.{rowOf, asksCell};
 use lookup_rules::Answer;
-use lookup_rules::Question;
+use lookup_rules::Plan;
+use lookup_rules::Request;
 use lookup_rules::Staged;
 
 // Whether the room keeps the index text.
@@ -31,52 +31,59 @@ pub fn settle(keep: bool, room: &mut [u8])
 
 // The first bit of the cell that a question asks for: in StandardStMan by the index text in the room. 0 where the question asks
 // for none or is refused.
-pub fn cell_bit(room: &[u8], s: Staged, q: Question) -> usize
-    requires { ⌜ (s .refused ≡ 0 → T (asksCell q) → s .incremental ≡ false → Findable (now room) s (rowOf q)) ⌝ }
-    ensures { λ r. ⌜ r ≡ cellBit (now (room .entry)) s q ⌝ }
+pub fn cell_bit(room: &[u8], s: Staged, r: Request) -> usize
+    requires { ⌜ (s .refused ≡ 0 → r .cell ≡ true → s .incremental ≡ false → Findable (now room) s (r .row)) ⌝ }
+    ensures { λ b. ⌜ b ≡ cellBit (now (room .entry)) s r ⌝ }
 {
-    let wanted = lookup_question::parts::asks_cell(q);
-    let row = lookup_question::parts::row_of(q);
     if s.refused != 0 {
         return 0;
     }
-    if wanted {
+    if r.cell {
         if s.incremental {
             return s.first;
         }
         let p = s.plan;
         let set = s.set;
-        return standard::place::first_bit(room, set, p.size, p.offset, p.bits, row);
+        return standard::place::first_bit(room, set, p.size, p.offset, p.bits, r.row);
     }
     0
 }
 
-// "A refusal carries its number and zeros."
-pub fn answer(s: Staged, q: Question, first: usize) -> Answer
-    ensures { λ r. ⌜ r ≡ answerWith s q first ⌝ }
+// The plan that is answered: none where no column is asked for.
+fn told(column: bool, p: Plan) -> Plan
+    ensures { λ x. ⌜ x ≡ cond column p noPlan ⌝ }
 {
-    let wanted = lookup_question::parts::asks_cell(q);
+    if column {
+        return p;
+    }
+    lookup_question::reading::no_plan()
+}
+
+// "A refusal carries its number and zeros." A check answers no plan, and only a place or a view has bits.
+pub fn answer(r: Request, s: Staged, first: usize) -> Answer
+    ensures { λ a. ⌜ a ≡ answerWith r s first ⌝ }
+{
     let refused = s.refused;
     if refused != 0 {
         return Answer {
             refused: refused,
-            plan: lookup_stages::planning::no_plan(),
+            plan: lookup_question::reading::no_plan(),
             first: 0,
             count: 0,
         };
     }
     let p = s.plan;
-    if wanted {
+    if r.cell {
         return Answer {
             refused: 0,
-            plan: p,
+            plan: told(r.column, p),
             first: first,
             count: p.bits,
         };
     }
     Answer {
         refused: 0,
-        plan: p,
+        plan: told(r.column, p),
         first: 0,
         count: 0,
     }

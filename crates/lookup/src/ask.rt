@@ -8,11 +8,12 @@ use lookup_rules::Question;
 
 // Every question: the answer, and the room as it is left.
 pub fn ask(table: &[u8], file: &[u8], q: Question, room: &mut [u8]) -> Answer
-    ensures { λ r. ⌜ (r ≡ answerOf (now (table .entry)) (now (file .entry)) q (length (now (room .entry)))) × (now (room .exit) ≡ roomAfter (now (table .entry)) (now (file .entry)) q (length (now (room .entry)))) ⌝ }
+    ensures { λ a. ⌜ (a ≡ answerOf (now (table .entry)) (now (file .entry)) q (length (now (room .entry)))) × (now (room .exit) ≡ roomAfter (now (table .entry)) (now (file .entry)) q (length (now (room .entry)))) ⌝ }
 {
-    let s = lookup_stages::stages(table, file, q, room);
-    let first = crate::answer::cell_bit(room, s, q);
+    let r = lookup_question::reading::read(q);
+    let s = lookup_stages::stages(table, file, r, room);
+    let first = crate::answer::cell_bit(room, s, r);
     let keep = crate::answer::keeps_text(s);
     crate::answer::settle(keep, room);
-    crate::answer::answer(s, q, first)
+    crate::answer::answer(r, s, first)
 }

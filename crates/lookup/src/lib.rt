@@ -6,7 +6,9 @@ ghost use mathlib.Core.Path.{_≡_};
 ghost use lib.ListN.{length};
 ghost use Prim.Native.Nat.{_+_, _/_};
 ghost use denote.Ref.{ptr};
-ghost use Rattle.lookup_rules.specs.Questions.{answerOf, roomAfter, verdictOf, planOf, placedOf, viewOf};
+ghost use Rattle.lookup_rules.specs.Questions.{answerOf, roomAfter};
+ghost use Rattle.lookup_rules.specs.Answers.{verdictOf, plannedOf, placedOf, viewOf};
+use lookup_rules::Asked;
 use lookup_rules::Placed;
 use lookup_rules::Plan;
 use lookup_rules::Planned;
@@ -23,7 +25,7 @@ pub fn check(table: &[u8], file: &[u8], sequence: usize, room: &mut [u8]) -> Ver
 
 // Plan.
 pub fn make_plan(table: &[u8], file: &[u8], position: usize, room: &mut [u8]) -> Planned
-    ensures { λ r. ⌜ (r ≡ planOf (answerOf (now (table .entry)) (now (file .entry)) (Question.Prepare position) (length (now (room .entry))))) × (now (room .exit) ≡ roomAfter (now (table .entry)) (now (file .entry)) (Question.Prepare position) (length (now (room .entry)))) ⌝ }
+    ensures { λ r. ⌜ (r ≡ plannedOf (answerOf (now (table .entry)) (now (file .entry)) (Question.Prepare position) (length (now (room .entry))))) × (now (room .exit) ≡ roomAfter (now (table .entry)) (now (file .entry)) (Question.Prepare position) (length (now (room .entry)))) ⌝ }
 {
     let a = crate::ask::ask(table, file, Question::Prepare(position), room);
     lookup_question::types::planned(a)
@@ -31,17 +33,27 @@ pub fn make_plan(table: &[u8], file: &[u8], position: usize, room: &mut [u8]) ->
 
 // Place of a row and a column position.
 pub fn place(table: &[u8], file: &[u8], row: usize, position: usize, room: &mut [u8]) -> Placed
-    ensures { λ r. ⌜ (r ≡ placedOf (answerOf (now (table .entry)) (now (file .entry)) (Question.Place row position) (length (now (room .entry))))) × (now (room .exit) ≡ roomAfter (now (table .entry)) (now (file .entry)) (Question.Place row position) (length (now (room .entry)))) ⌝ }
+    ensures { λ r. ⌜ (r ≡ placedOf (answerOf (now (table .entry)) (now (file .entry)) (Question.Place row (Asked.Position position)) (length (now (room .entry))))) × (now (room .exit) ≡ roomAfter (now (table .entry)) (now (file .entry)) (Question.Place row (Asked.Position position)) (length (now (room .entry)))) ⌝ }
 {
-    let a = crate::ask::ask(table, file, Question::Place(row, position), room);
+    let a = crate::ask::ask(
+        table,
+        file,
+        Question::Place(row, Asked::Position(position)),
+        room,
+    );
     lookup_question::types::placed(a)
 }
 
 // Place of a row by a prepared plan.
 pub fn place_planned(table: &[u8], file: &[u8], row: usize, plan: Plan, room: &mut [u8]) -> Placed
-    ensures { λ r. ⌜ (r ≡ placedOf (answerOf (now (table .entry)) (now (file .entry)) (Question.PlacePlanned row plan) (length (now (room .entry))))) × (now (room .exit) ≡ roomAfter (now (table .entry)) (now (file .entry)) (Question.PlacePlanned row plan) (length (now (room .entry)))) ⌝ }
+    ensures { λ r. ⌜ (r ≡ placedOf (answerOf (now (table .entry)) (now (file .entry)) (Question.Place row (Asked.Planned plan)) (length (now (room .entry))))) × (now (room .exit) ≡ roomAfter (now (table .entry)) (now (file .entry)) (Question.Place row (Asked.Planned plan)) (length (now (room .entry)))) ⌝ }
 {
-    let a = crate::ask::ask(table, file, Question::PlacePlanned(row, plan), room);
+    let a = crate::ask::ask(
+        table,
+        file,
+        Question::Place(row, Asked::Planned(plan)),
+        room,
+    );
     lookup_question::types::placed(a)
 }
 
@@ -53,9 +65,14 @@ pub fn view<'f>(
     position: usize,
     room: &mut [u8],
 ) -> &'f [u8]
-    ensures { λ r. ⌜ (now r ≡ viewOf (now (file .entry)) (answerOf (now (table .entry)) (now (file .entry)) (Question.View row position) (length (now (room .entry))))) × (ptr r ≡ (ptr (file .entry) .0, ptr (file .entry) .1 + answerOf (now (table .entry)) (now (file .entry)) (Question.View row position) (length (now (room .entry))) .first / 8)) × (now (room .exit) ≡ roomAfter (now (table .entry)) (now (file .entry)) (Question.View row position) (length (now (room .entry)))) ⌝ }
+    ensures { λ r. ⌜ (now r ≡ viewOf (now (file .entry)) (answerOf (now (table .entry)) (now (file .entry)) (Question.View row (Asked.Position position)) (length (now (room .entry))))) × (ptr r ≡ (ptr (file .entry) .0, ptr (file .entry) .1 + answerOf (now (table .entry)) (now (file .entry)) (Question.View row (Asked.Position position)) (length (now (room .entry))) .first / 8)) × (now (room .exit) ≡ roomAfter (now (table .entry)) (now (file .entry)) (Question.View row (Asked.Position position)) (length (now (room .entry)))) ⌝ }
 {
-    let a = crate::ask::ask(table, file, Question::View(row, position), room);
+    let a = crate::ask::ask(
+        table,
+        file,
+        Question::View(row, Asked::Position(position)),
+        room,
+    );
     lookup_question::types::part_of(file, a)
 }
 
@@ -67,9 +84,14 @@ pub fn view_refusal(
     position: usize,
     room: &mut [u8],
 ) -> usize
-    ensures { λ r. ⌜ (r ≡ answerOf (now (table .entry)) (now (file .entry)) (Question.View row position) (length (now (room .entry))) .refused) × (now (room .exit) ≡ roomAfter (now (table .entry)) (now (file .entry)) (Question.View row position) (length (now (room .entry)))) ⌝ }
+    ensures { λ r. ⌜ (r ≡ answerOf (now (table .entry)) (now (file .entry)) (Question.View row (Asked.Position position)) (length (now (room .entry))) .refused) × (now (room .exit) ≡ roomAfter (now (table .entry)) (now (file .entry)) (Question.View row (Asked.Position position)) (length (now (room .entry)))) ⌝ }
 {
-    let a = crate::ask::ask(table, file, Question::View(row, position), room);
+    let a = crate::ask::ask(
+        table,
+        file,
+        Question::View(row, Asked::Position(position)),
+        room,
+    );
     a.refused
 }
 
@@ -81,9 +103,9 @@ pub fn view_planned<'f>(
     plan: Plan,
     room: &mut [u8],
 ) -> &'f [u8]
-    ensures { λ r. ⌜ (now r ≡ viewOf (now (file .entry)) (answerOf (now (table .entry)) (now (file .entry)) (Question.ViewPlanned row plan) (length (now (room .entry))))) × (ptr r ≡ (ptr (file .entry) .0, ptr (file .entry) .1 + answerOf (now (table .entry)) (now (file .entry)) (Question.ViewPlanned row plan) (length (now (room .entry))) .first / 8)) × (now (room .exit) ≡ roomAfter (now (table .entry)) (now (file .entry)) (Question.ViewPlanned row plan) (length (now (room .entry)))) ⌝ }
+    ensures { λ r. ⌜ (now r ≡ viewOf (now (file .entry)) (answerOf (now (table .entry)) (now (file .entry)) (Question.View row (Asked.Planned plan)) (length (now (room .entry))))) × (ptr r ≡ (ptr (file .entry) .0, ptr (file .entry) .1 + answerOf (now (table .entry)) (now (file .entry)) (Question.View row (Asked.Planned plan)) (length (now (room .entry))) .first / 8)) × (now (room .exit) ≡ roomAfter (now (table .entry)) (now (file .entry)) (Question.View row (Asked.Planned plan)) (length (now (room .entry)))) ⌝ }
 {
-    let a = crate::ask::ask(table, file, Question::ViewPlanned(row, plan), room);
+    let a = crate::ask::ask(table, file, Question::View(row, Asked::Planned(plan)), room);
     lookup_question::types::part_of(file, a)
 }
 
@@ -95,8 +117,8 @@ pub fn view_planned_refusal(
     plan: Plan,
     room: &mut [u8],
 ) -> usize
-    ensures { λ r. ⌜ (r ≡ answerOf (now (table .entry)) (now (file .entry)) (Question.ViewPlanned row plan) (length (now (room .entry))) .refused) × (now (room .exit) ≡ roomAfter (now (table .entry)) (now (file .entry)) (Question.ViewPlanned row plan) (length (now (room .entry)))) ⌝ }
+    ensures { λ r. ⌜ (r ≡ answerOf (now (table .entry)) (now (file .entry)) (Question.View row (Asked.Planned plan)) (length (now (room .entry))) .refused) × (now (room .exit) ≡ roomAfter (now (table .entry)) (now (file .entry)) (Question.View row (Asked.Planned plan)) (length (now (room .entry)))) ⌝ }
 {
-    let a = crate::ask::ask(table, file, Question::ViewPlanned(row, plan), room);
+    let a = crate::ask::ask(table, file, Question::View(row, Asked::Planned(plan)), room);
     a.refused
 }

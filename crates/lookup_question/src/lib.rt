@@ -1,4 +1,4 @@
 // A question by itself (document 01, "The questions"): what it asks for, whether that passes, and its answer as the type of the question.
-pub mod parts;
+pub mod reading;
 pub mod tests;
 pub mod types;

@@ -1,10 +1,11 @@
-// Whether what a question asks for passes (document 01, "Refusal numbers", Order): the plan that is handed in, the row, and a view.
+// Whether what a question asks for passes (document 01, "Refusal numbers", Order): the column, the plan that is handed in, the row, and a
+// view.
 ghost use mathlib.Core.Path.{_≡_};
 ghost use mathlib.Core.Bool.{_&&_, _||_};
 ghost use Rattle.bytes_at.specs.Stages.{_▷_, orNo};
-ghost use Rattle.lookup_rules.specs.Questions.{samePlan, isFresh, isBelow, isSeen};
+ghost use Rattle.lookup_rules.specs.Questions.{samePlan, isColumn, sequenceFor, isPlaced, isFresh, isBelow, isSeen};
 use lookup_rules::Plan;
-use lookup_rules::Question;
+use lookup_rules::Request;
 
 // One stage more: after a refusal nothing counts.
 pub fn stage(refused: usize, ok: bool, number: usize) -> usize
@@ -51,44 +52,63 @@ fn same_plan(a: Plan, b: Plan) -> bool
     both(r7, a.size == b.size)
 }
 
-// Whether a plan that is handed in is the one that would be made now.
-pub fn fresh(q: Question, p: Plan) -> bool
-    ensures { λ r. ⌜ r ≡ isFresh q p ⌝ }
+// Whether the column exists, where one is asked for.
+pub fn is_column(r: Request, count: usize) -> bool
+    ensures { λ x. ⌜ x ≡ isColumn r count ⌝ }
 {
-    match q {
-        Question::Check(_) => true,
-        Question::Prepare(_) => true,
-        Question::Place(_, _) => true,
-        Question::PlacePlanned(_, a) => same_plan(a, p),
-        Question::View(_, _) => true,
-        Question::ViewPlanned(_, a) => same_plan(a, p),
+    if r.column {
+        return r.position < count;
     }
+    true
+}
+
+// The sequence number of the manager: the column's; a check names its own.
+pub fn sequence_for(r: Request, own: usize) -> usize
+    ensures { λ x. ⌜ x ≡ sequenceFor r own ⌝ }
+{
+    if r.column {
+        return own;
+    }
+    r.sequence
+}
+
+// Whether a column of a data type, where one is asked for, has cells in an IncrementalStMan file.
+pub fn is_placed(r: Request, datatype: usize) -> bool
+    ensures { λ x. ⌜ x ≡ isPlaced r datatype ⌝ }
+{
+    if r.column {
+        return datatype != 11;
+    }
+    true
+}
+
+// Whether a plan that is handed in is the one that would be made now.
+pub fn fresh(r: Request, p: Plan) -> bool
+    ensures { λ x. ⌜ x ≡ isFresh r p ⌝ }
+{
+    if r.planned {
+        let a = r.plan;
+        return same_plan(a, p);
+    }
+    true
 }
 
 // Whether the row, where one is asked for, is below the row count.
-pub fn below(q: Question, rows: usize) -> bool
-    ensures { λ r. ⌜ r ≡ isBelow q rows ⌝ }
+pub fn below(r: Request, rows: usize) -> bool
+    ensures { λ x. ⌜ x ≡ isBelow r rows ⌝ }
 {
-    match q {
-        Question::Check(_) => true,
-        Question::Prepare(_) => true,
-        Question::Place(row, _) => row < rows,
-        Question::PlacePlanned(row, _) => row < rows,
-        Question::View(row, _) => row < rows,
-        Question::ViewPlanned(row, _) => row < rows,
+    if r.cell {
+        return r.row < rows;
     }
+    true
 }
 
 // Whether what is viewed is no Bool of a StandardStMan file.
-pub fn seen(q: Question, incremental: bool, datatype: usize) -> bool
-    ensures { λ r. ⌜ r ≡ isSeen q incremental datatype ⌝ }
+pub fn seen(r: Request, incremental: bool, datatype: usize) -> bool
+    ensures { λ x. ⌜ x ≡ isSeen r incremental datatype ⌝ }
 {
-    match q {
-        Question::Check(_) => true,
-        Question::Prepare(_) => true,
-        Question::Place(_, _) => true,
-        Question::PlacePlanned(_, _) => true,
-        Question::View(_, _) => either(incremental, datatype != 0),
-        Question::ViewPlanned(_, _) => either(incremental, datatype != 0),
+    if r.view {
+        return either(incremental, datatype != 0);
     }
+    true
 }

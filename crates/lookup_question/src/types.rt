@@ -3,7 +3,7 @@ ghost use mathlib.Core.Path.{_≡_};
 ghost use Prim.Native.Nat.{_+_, _/_};
 ghost use lib.ListN.{length, take, drop};
 ghost use denote.Ref.{ptr};
-ghost use Rattle.lookup_rules.specs.Questions.{verdictOf, planOf, placedOf, viewOf};
+ghost use Rattle.lookup_rules.specs.Answers.{verdictOf, plannedOf, placedOf, viewOf};
 use lookup_rules::Answer;
 use lookup_rules::Placed;
 use lookup_rules::Planned;
@@ -20,7 +20,7 @@ pub fn verdict(a: Answer) -> Verdict
 }
 
 pub fn planned(a: Answer) -> Planned
-    ensures { λ r. ⌜ r ≡ planOf a ⌝ }
+    ensures { λ r. ⌜ r ≡ plannedOf a ⌝ }
 {
     let refused = a.refused;
     if refused == 0 {

@@ -2,129 +2,128 @@
 -- Assumes nothing.
 use mathlib.Core.Path.{_≡_, refl, sym, ap, _∙_}
 use mathlib.Core.List.{List}
-use mathlib.Core.Bool.{Bool, true, false, not, _||_}
+use mathlib.Core.Bool.{Bool, true, false}
 use Prim.Native.Nat.{ℕ}
-use lib.Dec.{ltb, eqb}
+use native.Mathlib.Omega.{arith}
 use Rattle.bytes_at.specs.Steps.{_>>=_}
 use Rattle.bytes_at.specs.Stages.{_▷_, orNo}
 use Rattle.bytes_at.proofs.Stages.{regroup}
 use Rattle.table_rules.specs.Table.{describedAs}
-use Rattle.lookup_rules.specs.declared.FileChecked.{FileChecked}
-use Rattle.lookup_rules.specs.declared.Target.{Target}
 use Rattle.lookup_rules.specs.declared.Plan.{Plan}
+use Rattle.lookup_rules.specs.declared.Request.{Request}
+use Rattle.lookup_rules.specs.declared.Asked.the-variants.{Position, Planned}
 use Rattle.lookup_rules.specs.declared.Question.the-variants.{Prepare}
 use Rattle.lookup_rules.specs.declared.Answer.{Answer}
-use Rattle.lookup_rules.specs.Questions.{targetOf, fileOf, planFor, samePlan, stagesOf, answerOf}
-use Rattle.lookup_rules.specs.Stale.{Wanted, place, view, byPlan, byPosition, preparedNow, EveryPlan}
-use Rattle.lookup_rules.proofs.Files.{standard-refused, incremental-refused, row-refused, row-plan}
-use Rattle.lookup_rules.proofs.Stages.{answer-refused, answered-is}
-use Rattle.lookup_rules.proofs.Low.{described-low}
+use Rattle.lookup_rules.specs.Questions.{cellOf, requestOf, targetOf, samePlan, isBelow, isSeen, stagesAfter, stagesOf, answered, answerFor, roomFor}
+use Rattle.lookup_rules.specs.Stale.{preparedNow, Stale, checkedFor, planOfNow, ByPlan, EveryPlan}
+use Rattle.lookup_rules.proofs.Files.{row-refused, row-plan}
+use Rattle.lookup_rules.proofs.Stages.{answer-refused, answered-is, room-zero}
 use Rattle.lookup_rules.proofs.Plans.{fresh-same, stale-differs, differs-stale}
-use Rattle.lookup_rules.proofs.Refusals.{Not12, passes, later-not, target-not, check-not, incremental-not, stale-twelve, unmade-stays, twelve-stale}
+use Rattle.lookup_rules.proofs.Refusals.{passes, stale-twelve, unmade-stays}
 
--- the manager of a column, and the check of its file, where a row is asked for
-abbrev targetNow : List ℕ → ℕ → Target
-targetNow t c = targetOf (describedAs t) (Prepare c)
-
-abbrev checkedNow : List ℕ → List ℕ → ℕ → ℕ → ℕ → FileChecked
-checkedNow t f c row l = fileOf (describedAs t) (targetNow t c) f row l
-
-abbrev planAt : List ℕ → List ℕ → ℕ → ℕ → ℕ → Plan
-planAt t f c row l = planFor (targetNow t c) (checkedNow t f c row l)
-
+-- ---- the plan of a position, asked for now
 module _ (t f : List ℕ) (c l : ℕ) where
-  abbrev planNow : Plan
-  planNow = planAt t f c 0 l
+  abbrev prepared : Request
+  prepared = requestOf (Prepare c)
 
-  prepare-plan : stagesOf t f (Prepare c) l .plan ≡ planNow
-  unfolding stagesOf targetOf _>>=_
+  prepare-plan : stagesOf t f prepared l .plan ≡ planOfNow t f prepared l
+  unfolding stagesOf stagesAfter _>>=_
   prepare-plan = refl
 
-  prepare-refused : stagesOf t f (Prepare c) l .refused ≡ checkedNow t f c 0 l .refused
-  unfolding stagesOf targetOf _>>=_
+  prepare-refused : stagesOf t f prepared l .refused ≡ checkedFor t f prepared l .refused
+  unfolding stagesOf stagesAfter _>>=_
   prepare-refused = passes _ 14 ∙ passes _ 9 ∙ passes _ 12
 
-  check-either : (b : Bool) → targetNow t c .incremental ≡ b → Not12 (checkedNow t f c 0 l .refused)
-  check-either true e = rw (incremental-refused (describedAs t) (targetNow t c) f l e 0) (incremental-not _ _ f _ (target-not _ _ (described-low t)))
-  check-either false e = rw (standard-refused (describedAs t) (targetNow t c) f l e 0) (check-not _ _ f _ l (target-not _ _ (described-low t)))
-
-  check-other : Not12 (checkedNow t f c 0 l .refused)
-  check-other = check-either (targetNow t c .incremental) refl
-
--- whether what is asked for is not the view of a Bool in StandardStMan
-abbrev seenBy : Wanted → Bool → ℕ → Bool
-seenBy place incremental datatype = true
-seenBy view incremental datatype = incremental || not (eqb datatype 0)
-
 module _ (t f : List ℕ) (p : Plan) (l : ℕ) where
-  -- the check's refusal is the fresh plan's
-  made-check : preparedNow t f p l .refused ≡ checkedNow t f (p .position) 0 l .refused
-  made-check = answer-refused t f (Prepare (p .position)) l ∙ prepare-refused t f (p .position) l
+  -- the request for it
+  abbrev now : Request
+  now = prepared t f (p .position) l
 
-  made-plan : preparedNow t f p l .refused ≡ 0 → preparedNow t f p l .plan ≡ planNow t f (p .position) l
-  unfolding answerOf
+  made-check : preparedNow t f p l .refused ≡ checkedFor t f now l .refused
+  made-check = answer-refused t f now l ∙ prepare-refused t f (p .position) l
+
+  made-plan : preparedNow t f p l .refused ≡ 0 → preparedNow t f p l .plan ≡ planOfNow t f now l
+  unfolding answerFor
   made-plan h =
-      ap (λ (a : Answer). a .plan) (answered-is (stagesOf t f (Prepare (p .position)) l) _ (sym (answer-refused t f (Prepare (p .position)) l) ∙ h))
+      ap (λ (a : Answer). a .plan) (answered-is now (stagesOf t f now l) _ (sym (answer-refused t f now l) ∙ h))
       ∙ prepare-plan t f (p .position) l
 
-module _ (t f : List ℕ) (row : ℕ) (p : Plan) (l : ℕ) where
+-- ---- a cell by the plan, or by the plan's position; of its view where v is true
+module _ (t f : List ℕ) (v : Bool) (row : ℕ) (p : Plan) (l : ℕ) where
+  abbrev byPlan : Request
+  byPlan = cellOf row (Planned p) v
+
+  abbrev byPosition : Request
+  byPosition = cellOf row (Position (p .position)) v
+
+  abbrev made : Plan
+  made = planOfNow t f (now t f p l) l
+
+  -- the row changes neither what the file's check refuses nor the plan
+  same-refusal : checkedFor t f byPlan l .refused ≡ checkedFor t f (now t f p l) l .refused
+  unfolding targetOf _>>=_
+  same-refusal = row-refused (describedAs t) _ f l row 0
+
+  same-made : planOfNow t f byPlan l ≡ made
+  unfolding targetOf _>>=_
+  same-made = row-plan (describedAs t) _ f l row 0
+
   -- the stages after the plan's
-  abbrev laterAt : Wanted → Plan → ℕ
-  laterAt w made = orNo (ltb row (describedAs t .rows)) 9 ▷ orNo (seenBy w (targetNow t (p .position) .incremental) (made .datatype)) 14
+  abbrev later : ℕ
+  later = orNo (isBelow byPlan (describedAs t .rows)) 9 ▷ orNo (isSeen byPlan (targetOf (describedAs t) byPlan .incremental) (planOfNow t f byPlan l .datatype)) 14
 
-  abbrev later : Wanted → ℕ
-  later w = laterAt w (planNow t f (p .position) l)
+  planned-stages : stagesOf t f byPlan l .refused ≡ (checkedFor t f byPlan l .refused ▷ orNo (samePlan p (planOfNow t f byPlan l)) 12) ▷ later
+  unfolding stagesOf stagesAfter _>>=_
+  planned-stages = regroup _ _ _
 
-  planned-row : (w : Wanted) → stagesOf t f (byPlan w row p) l .refused
-      ≡ (checkedNow t f (p .position) row l .refused ▷ orNo (samePlan p (planAt t f (p .position) row l)) 12) ▷ laterAt w (planAt t f (p .position) row l)
-  unfolding stagesOf targetOf _>>=_
-  planned-row place = regroup _ _ _
-  planned-row view = regroup _ _ _
+  planned-refused : answerFor t f byPlan l .refused ≡ (preparedNow t f p l .refused ▷ orNo (samePlan p made) 12) ▷ later
+  planned-refused =
+      answer-refused t f byPlan l
+      ∙ planned-stages
+      ∙ ap (λ (n : ℕ). (n ▷ orNo (samePlan p (planOfNow t f byPlan l)) 12) ▷ later) (same-refusal ∙ sym (made-check t f p l))
+      ∙ ap (λ (x : Plan). (preparedNow t f p l .refused ▷ orNo (samePlan p x) 12) ▷ later) same-made
 
-  same-refusal : checkedNow t f (p .position) row l .refused ≡ checkedNow t f (p .position) 0 l .refused
-  same-refusal = row-refused (describedAs t) (targetNow t (p .position)) f l row 0
+  same-stages : samePlan p (planOfNow t f byPlan l) ≡ true → stagesOf t f byPlan l ≡ stagesOf t f byPosition l
+  unfolding stagesOf stagesAfter targetOf _>>=_
+  same-stages h = rw h
 
-  same-made : planAt t f (p .position) row l ≡ planNow t f (p .position) l
-  same-made = row-plan (describedAs t) (targetNow t (p .position)) f l row 0
+  module _ (s : samePlan p made ≡ true) where
+    same : stagesOf t f byPlan l ≡ stagesOf t f byPosition l
+    same = same-stages (ap (samePlan p) same-made ∙ s)
 
-  planned-refused : (w : Wanted) → stagesOf t f (byPlan w row p) l .refused
-      ≡ (checkedNow t f (p .position) 0 l .refused ▷ orNo (samePlan p (planNow t f (p .position) l)) 12) ▷ later w
-  planned-refused w =
-      planned-row w
-      ∙ ap (λ (n : ℕ). (n ▷ orNo (samePlan p (planAt t f (p .position) row l)) 12) ▷ laterAt w (planAt t f (p .position) row l)) same-refusal
-      ∙ ap (λ (made : Plan). (checkedNow t f (p .position) 0 l .refused ▷ orNo (samePlan p made) 12) ▷ laterAt w made) same-made
+    same-answer : answerFor t f byPlan l ≡ answerFor t f byPosition l
+    unfolding answerFor answered
+    same-answer = rw same
 
-  same-stages : (w : Wanted) → samePlan p (planAt t f (p .position) row l) ≡ true
-      → stagesOf t f (byPlan w row p) l ≡ stagesOf t f (byPosition w row (p .position)) l
-  unfolding stagesOf targetOf _>>=_
-  same-stages place h = rw h
-  same-stages view h = rw h
+    same-room : roomFor t f byPlan l ≡ roomFor t f byPosition l
+    unfolding roomFor
+    same-room = rw same
 
-  same-answer : (w : Wanted) → samePlan p (planNow t f (p .position) l) ≡ true
-      → answerOf t f (byPlan w row p) l ≡ answerOf t f (byPosition w row (p .position)) l
-  unfolding answerOf
-  same-answer place h = rw (same-stages place (ap (samePlan p) same-made ∙ h))
-  same-answer view h = rw (same-stages view (ap (samePlan p) same-made ∙ h))
+  stale-number : Stale t f p l → answerFor t f byPlan l .refused ≡ 12
+  stale-number s =
+      planned-refused
+      ∙ stale-twelve (preparedNow t f p l .refused) (samePlan p made) later (s .made)
+      (stale-differs p made (rw (made-plan t f p l (s .made)) at (s .differs)))
 
-  planned-is : (w : Wanted) → answerOf t f (byPlan w row p) l .refused
-      ≡ (checkedNow t f (p .position) 0 l .refused ▷ orNo (samePlan p (planNow t f (p .position) l)) 12) ▷ later w
-  planned-is w = answer-refused t f (byPlan w row p) l ∙ planned-refused w
+  by-plan : ByPlan t f byPlan byPosition p l
+  by-plan =
+      record {
+        refused = λ s. record {
+          earlier = same-refusal ∙ sym (made-check t f p l) ∙ s .made;
+          stale = ap (samePlan p) same-made ∙ stale-differs p made (rw (made-plan t f p l (s .made)) at (s .differs));
+        };
+        only = λ s.
+            let z = made-check t f p l ∙ sym same-refusal ∙ s .earlier in
+            record { made = z; differs = rw (made-plan t f p l z) (differs-stale p made (ap (samePlan p) (sym same-made) ∙ s .stale)) };
+        number = stale-number;
+        room = λ s. room-zero t f byPlan l (λ e. let z : _≡_ {A = ℕ} 12 0 = sym (stale-number s) ∙ e in omega arith);
+        fresh = λ z e. same-answer (fresh-same p made (sym (made-plan t f p l z) ∙ e));
+        fresh-room = λ z e. same-room (fresh-same p made (sym (made-plan t f p l z) ∙ e));
+        unmade = λ n. planned-refused ∙ unmade-stays _ _ _ n;
+        unmade-room = λ n. room-zero t f byPlan l (λ e. n (sym (planned-refused ∙ unmade-stays _ _ _ n) ∙ e));
+      }
 
--- Place and View by a plan answer 12 exactly where a plan can be made now and is another one; what they answer for the position
--- where it is the same one; and the refusal of the plan where none can be made.
+-- Place and View by a plan are refused as stale, with 12, exactly where a plan can be made now and is another one; they answer what they
+-- answer for the position where it is the same one; and the refusal of the plan where none can be made.
 pub every-plan : EveryPlan
-every-plan t f w row p l =
-    let a = checkedNow t f (p .position) 0 l .refused in
-    let now = planNow t f (p .position) l in
-    let b = later t f row p l w in
-    let made = made-check t f p l in
-    let is = planned-is t f row p l w in
-    record {
-      refused = λ s. is ∙ stale-twelve a (samePlan p now) b (sym made ∙ s .made) (stale-differs p now (rw (made-plan t f p l (s .made)) at (s .differs)));
-      only = λ e.
-          let h = twelve-stale a (samePlan p now) b (check-other t f (p .position) l) (later-not _ _) (sym is ∙ e) in
-          let z = made ∙ h .0 in
-          record { made = z; differs = rw (made-plan t f p l z) (differs-stale p now (h .1)) };
-      fresh = λ z e. same-answer t f row p l w (fresh-same p now (sym (made-plan t f p l z) ∙ e));
-      unmade = λ n. is ∙ unmade-stays a (orNo (samePlan p now) 12) b (λ e. n (made ∙ e)) ∙ sym made;
-    }
+every-plan t f row p l = (by-plan t f false row p l, by-plan t f true row p l)

@@ -4,8 +4,8 @@ pub mod Files
 pub mod Stages
 pub mod Places
 pub mod IncrementalPlaces
-pub mod Low
 pub mod Refusals
 pub mod Plans
 pub mod Fresh
+pub mod Said
 pub mod Views

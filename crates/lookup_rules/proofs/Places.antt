@@ -12,15 +12,14 @@ use Rattle.table_rules.specs.Table.{describedAs, bindingIn}
 use Rattle.standard_rules.specs.Place.{Bits, placeOf}
 use Rattle.standard_rules.specs.Map.{fits, Kept, mapOf}
 use Rattle.standard_rules.proofs.Places.{every-two}
-use Rattle.bytes_at.proofs.Tests.{is-true}
 use Rattle.standard_rules.specs.Check.{refusalOf}
-use Rattle.lookup_rules.specs.declared.Question.{Question}
-use Rattle.lookup_rules.specs.declared.Question.the-variants.{Place, PlacePlanned}
-use Rattle.lookup_rules.specs.Questions.{rowOf, positionOf, asksCell, kindWith, isIncremental, placeIn, answerOf}
+use Rattle.lookup_rules.specs.declared.Request.{Request}
+use Rattle.lookup_rules.specs.declared.Question.the-variants.{Place}
+use Rattle.lookup_rules.specs.Questions.{columnOf, requestOf, kindWith, isIncremental, placeIn, answerFor, answerOf}
+use Rattle.lookup_rules.specs.Answers.{answerBits}
 use Rattle.lookup_rules.specs.declared.Asked.{Asked}
-use Rattle.lookup_rules.specs.declared.Asked.the-variants.{Position, Planned}
-use Rattle.lookup_rules.specs.Demand.{question, columnOf, answerBits, carries, inStandard, Places}
-use Rattle.lookup_rules.proofs.CellAsked.{cell-sequence, cell-column, cell-row, bits-for}
+use Rattle.lookup_rules.specs.Demand.{carries, inStandard, Places}
+use Rattle.lookup_rules.proofs.CellAsked.{Cell, cell-sequence, cell-column, cell-row, cell-bits}
 use Rattle.standard_rules.proofs.Columns.{column-kept, map-rows}
 use Rattle.lookup_rules.proofs.Files.{standard-refused}
 use Rattle.lookup_rules.proofs.Stages.{targetFor, target-sequence, target-kind, passed}
@@ -40,38 +39,37 @@ pub record Placed (t f : List ℕ) (sequence row c : ℕ) (b : Bits) : Type 0 wh
   pub below : row < mapOf (describedAs t) sequence f .rows
   pub same : b ≡ placeOf (mapOf (describedAs t) sequence f) row c
 
-module _ (t f : List ℕ) (sequence l : ℕ) (q : Question) (w : T (asksCell q)) (k : inStandard t sequence)
-    (e : bindingIn (describedAs t) (positionOf q) .sequence ≡ sequence) (h : answerOf t f q l .refused ≡ 0) where
-  pub own : targetFor t f q l .sequence ≡ sequence
-  own = target-sequence (describedAs t) q ∙ cell-sequence q _ w ∙ e
+module _ (t f : List ℕ) (sequence l : ℕ) (r : Request) (w : Cell r) (k : inStandard t sequence)
+    (e : bindingIn (describedAs t) (r .position) .sequence ≡ sequence) (h : answerFor t f r l .refused ≡ 0) where
+  pub own : targetFor t f r l .sequence ≡ sequence
+  own = target-sequence (describedAs t) r ∙ cell-sequence r _ w ∙ e
 
-  pub kind : targetFor t f q l .incremental ≡ false
+  pub kind : targetFor t f r l .incremental ≡ false
   kind =
-      target-kind (describedAs t) q
+      target-kind (describedAs t) r
       ∙ ap (λ (n : ℕ). isIncremental (kindWith (describedAs t .managers) (describedAs t .«manager_count») n)) own
       ∙ ap (λ (x : Kind). isIncremental x) k
 
-  pub accepted : refusalOf (describedAs t) (targetFor t f q l .sequence) f (targetFor t f q l .refused) l ≡ 0
-  accepted = sym (standard-refused (describedAs t) (targetFor t f q l) f l kind (rowOf q)) ∙ passed t f q l h .checked
+  pub accepted : refusalOf (describedAs t) (targetFor t f r l .sequence) f (targetFor t f r l .refused) l ≡ 0
+  accepted = sym (standard-refused (describedAs t) (targetFor t f r l) f l kind (r .row)) ∙ passed t f r l h .checked
 
-  pub shown : Placed t f sequence (rowOf q) (positionOf q) (answerBits (answerOf t f q l))
+  pub shown : Placed t f sequence (r .row) (r .position) (answerBits (answerFor t f r l))
   shown =
-      let x = passed t f q l h in
+      let x = passed t f r l h in
       record {
         fit = rw own at (map-fits _ _ f _ l accepted);
-        kept = column-kept (describedAs t) sequence f (positionOf q) (cell-column q _ w (x .column)) e;
-        below = rw map-rows (cell-row q _ w (x .row));
+        kept = column-kept (describedAs t) sequence f (r .position) (cell-column r _ w (x .column)) e;
+        below = rw map-rows (cell-row r _ w (x .row));
         same =
-            ap answerBits (x .same) ∙ bits-for q _
-            ∙ rw (is-true (asksCell q) w, own, kind) (place-standard (describedAs t) sequence f (rowOf q) (positionOf q));
+            ap answerBits (x .same) ∙ cell-bits (r .cell) _ (w .cell)
+            ∙ rw (own, kind) (place-standard (describedAs t) sequence f (r .row) (r .position));
       }
 
 -- by position and by plan alike
 placed : (t f : List ℕ) (sequence l row : ℕ) (a : Asked) → inStandard t sequence → carries t a sequence
-    → answerOf t f (question row a) l .refused ≡ 0
-    → Placed t f sequence row (columnOf a) (answerBits (answerOf t f (question row a) l))
-placed t f sequence l row (Position c) k e h = shown t f sequence l (Place row c) tt k e h
-placed t f sequence l row (Planned p) k e h = shown t f sequence l (PlacePlanned row p) tt k e h
+    → answerOf t f (Place row a) l .refused ≡ 0
+    → Placed t f sequence row (columnOf a) (answerBits (answerOf t f (Place row a) l))
+placed t f sequence l row a k e h = shown t f sequence l (requestOf (Place row a)) (record { cell = refl; column = refl }) k e h
 
 -- Demand 3: of every two answers of Place that are not refused, for the same bytes of table and file, asked by position or by
 -- plan and each with its own index room, the places lie in the data buckets that the index gives to their rows, off the header,

@@ -7,16 +7,16 @@ use Prim.Native.Nat.{ℕ, _+_, _*_, _≤_, _<_}
 use native.Mathlib.Nat.{mul-le-mul}
 use native.Mathlib.Omega.{arith}
 use lib.Dec.{T, leb→le}
-use lib.ListN.{length, getD}
+use lib.ListN.{length}
 use borrow.Author.Tests.{eq-eqb}
 use Rattle.bytes_at.specs.Steps.{_>>=_}
+use Rattle.bytes_at.proofs.Tests.{is-true}
 use Rattle.bytes_at.proofs.Stages.{then-left, then-right, or-passed}
 use Rattle.table_rules.specs.declared.Column.{Column}
-use Rattle.table_rules.specs.ColumnDesc.{noColumn}
 use Rattle.table_rules.specs.declared.Kind.{Kind}
 use Rattle.table_rules.specs.declared.Kind.the-variants.{Other, Standard, Incremental}
 use Rattle.table_rules.specs.declared.Description.{Description}
-use Rattle.table_rules.specs.Table.{describedAs, bindingIn}
+use Rattle.table_rules.specs.Table.{describedAs, columnIn, bindingIn}
 use Rattle.standard_rules.specs.Map.{Map, columnAt, mapOf}
 use Rattle.standard_rules.specs.Header.{bucketStart, headerAt}
 use Rattle.standard_rules.specs.Place.{Bits, placeOf, bucketIn, localRow}
@@ -26,14 +26,15 @@ use Rattle.incremental_rules.specs.Header.{headerAt as incrementalHeader}
 use Rattle.incremental_rules.specs.Check.{refusalOf as incrementalRefusal}
 use Rattle.incremental_rules.specs.Place.{placeOf as incrementalPlace, bitOf}
 use Rattle.lookup_rules.specs.declared.Plan.{Plan}
-use Rattle.lookup_rules.specs.declared.Question.{Question}
+use Rattle.lookup_rules.specs.declared.Request.{Request}
 use Rattle.lookup_rules.specs.declared.Asked.{Asked}
-use Rattle.lookup_rules.specs.declared.Asked.the-variants.{Position, Planned}
+use Rattle.lookup_rules.specs.declared.Question.the-variants.{Place, View}
 use Rattle.lookup_rules.specs.declared.Answer.{Answer}
-use Rattle.lookup_rules.specs.Questions.{rowOf, positionOf, asksCell, kindWith, isSeen, planFor, stagesOf, answerOf}
-use Rattle.lookup_rules.specs.Demand.{answerBits}
-use Rattle.lookup_rules.specs.Views.{viewed, HoldsCell, EveryView}
-use Rattle.lookup_rules.proofs.CellAsked.{cell-sequence, cell-column}
+use Rattle.lookup_rules.specs.Questions.{requestOf, kindWith, isSeen, targetOf, planFor, stagesAfter, stagesOf, answered, answerFor, answerOf}
+use Rattle.lookup_rules.specs.Answers.{answerBits}
+use Rattle.lookup_rules.specs.Stale.{planOfNow}
+use Rattle.lookup_rules.specs.Views.{HoldsCell, EveryView, ViewsPlace}
+use Rattle.lookup_rules.proofs.CellAsked.{Cell, cell-sequence, cell-column}
 use Rattle.table_rules.proofs.WholeBytes.{Even8, eight, times-even}
 use Rattle.table_rules.proofs.Described.{described}
 use Rattle.standard_rules.proofs.Columns.{column-same}
@@ -75,20 +76,20 @@ there-enough d sequence f refused h =
 even-first : (a k n : ℕ) → Even8 n → Even8 (8 * a + k * n)
 even-first a k n e = omega (arith, times-even k n e)
 
-module _ (t f : List ℕ) (l : ℕ) (q : Question) (w : T (asksCell q)) (h : answerOf t f q l .refused ≡ 0) where
+module _ (t f : List ℕ) (l : ℕ) (r : Request) (w : Cell r) (h : answerFor t f r l .refused ≡ 0) where
   abbrev d : Description
   d = describedAs t
 
   abbrev c : ℕ
-  c = positionOf q
+  c = r .position
 
   abbrev sequence : ℕ
   sequence = bindingIn d c .sequence
 
   known : c < d .«column_count»
-  known = cell-column q (d .«column_count») w (passed t f q l h .column)
+  known = cell-column r (d .«column_count») w (passed t f r l h .column)
 
-  module _ (k : kindWith (d .managers) (d .«manager_count») sequence ≡ Standard) (s : getD (d .columns) c noColumn .datatype .number ≡ 0 → ⊥) where
+  module _ (k : kindWith (d .managers) (d .«manager_count») sequence ≡ Standard) (s : columnIn d c .datatype .number ≡ 0 → ⊥) where
     abbrev m : Map
     m = mapOf d sequence f
 
@@ -96,37 +97,37 @@ module _ (t f : List ℕ) (l : ℕ) (q : Question) (w : T (asksCell q)) (h : ans
     bits-even = rw (column-same d sequence f c known) (described t .columns-whole c .whole s)
 
     long : 512 + m .count * m .size ≤ length f
-    long = rw (standard.own t f sequence l q w k refl h) at (long-enough d _ f _ l (standard.accepted t f sequence l q w k refl h))
+    long = rw (standard.own t f sequence l r w k refl h) at (long-enough d _ f _ l (standard.accepted t f sequence l r w k refl h))
 
-    standard-place : Holds f (placeOf m (rowOf q) c)
+    standard-place : Holds f (placeOf m (r .row) c)
     standard-place =
-        let x = standard.shown t f sequence l q w k refl h in
-        let e = every-two m (x .fit) (rowOf q) c (rowOf q) c (x .below) (x .kept) (x .below) (x .kept) .one in
+        let x = standard.shown t f sequence l r w k refl h in
+        let e = every-two m (x .fit) (r .row) c (r .row) c (x .below) (x .kept) (x .below) (x .kept) .one in
         record {
-          starts = even-first (bucketStart (m .size) (bucketIn m (rowOf q) c) + columnAt m c .offset) (localRow m (rowOf q) c) (columnAt m c .bits) bits-even;
+          starts = even-first (bucketStart (m .size) (bucketIn m (r .row) c) + columnAt m c .offset) (localRow m (r .row) c) (columnAt m c .bits) bits-even;
           bytes = bits-even;
           there = omega (arith, e .inside .1, bucket-end (m .size) (e .in-range), long);
         }
 
-    standard-holds : Holds f (answerBits (answerOf t f q l))
-    standard-holds = rw (standard.shown t f sequence l q w k refl h .same) standard-place
+    standard-holds : Holds f (answerBits (answerFor t f r l))
+    standard-holds = rw (standard.shown t f sequence l r w k refl h .same) standard-place
 
   module _ (k : kindWith (d .managers) (d .«manager_count») sequence ≡ Incremental) where
     there-long : 512 + incrementalHeader f (d .big) .count * incrementalHeader f (d .big) .size ≤ length f
-    there-long = there-enough d _ f _ (incremental.accepted t f sequence l q w k refl h)
+    there-long = there-enough d _ f _ (incremental.accepted t f sequence l r w k refl h)
 
-    incremental-even : (n : ℕ) → Even8 (incrementalPlace d n f c (rowOf q) .first)
+    incremental-even : (n : ℕ) → Even8 (incrementalPlace d n f c (r .row) .first)
     unfolding incrementalPlace bitOf
     incremental-even n = eight _ _ refl
 
-    incremental-bytes : (n : ℕ) → Even8 (incrementalPlace d n f c (rowOf q) .count)
+    incremental-bytes : (n : ℕ) → Even8 (incrementalPlace d n f c (r .row) .count)
     unfolding incrementalPlace
     incremental-bytes n = eight _ _ refl
 
-    incremental-holds : Holds f (answerBits (answerOf t f q l))
+    incremental-holds : Holds f (answerBits (answerFor t f r l))
     incremental-holds =
-        let x = incremental.safe t f sequence l q w k refl h in
-        let e = incremental.same t f sequence l q w k refl h in
+        let x = incremental.safe t f sequence l r w k refl h in
+        let e = incremental.same t f sequence l r w k refl h in
         record {
           starts = rw (ap (λ (b : Bits). b .first) e) (incremental-even _);
           bytes = rw (ap (λ (b : Bits). b .count) e) (incremental-bytes _);
@@ -134,34 +135,42 @@ module _ (t f : List ℕ) (l : ℕ) (q : Question) (w : T (asksCell q)) (h : ans
         }
 
 -- ---- by the manager's kind
-module _ (t f : List ℕ) (l row : ℕ) (a : Asked) (h : answerOf t f (viewed row a) l .refused ≡ 0) where
-  wanted : (x : Asked) → T (asksCell (viewed row x))
-  wanted (Position c) = tt
-  wanted (Planned p) = tt
+module _ (t f : List ℕ) (l row : ℕ) (a : Asked) (h : answerOf t f (View row a) l .refused ≡ 0) where
+  abbrev r : Request
+  r = requestOf (View row a)
 
-  abbrev q : Question
-  q = viewed row a
+  asked : Cell r
+  asked = record { cell = refl; column = refl }
 
-  own : targetFor t f q l .sequence ≡ bindingIn (describedAs t) (positionOf q) .sequence
-  own = target-sequence (describedAs t) q ∙ cell-sequence q _ (wanted a)
+  no-bool : (n : ℕ) → T (isSeen r false n) → n ≡ 0 → ⊥
+  no-bool n s e = rw (eq-eqb n 0 e) at s
 
-  no-bool : (x : Asked) (n : ℕ) → T (isSeen (viewed row x) false n) → n ≡ 0 → ⊥
-  no-bool (Position c) n s e = rw (eq-eqb n 0 e) at s
-  no-bool (Planned p) n s e = rw (eq-eqb n 0 e) at s
-
-  datatype-is : stagesOf t f q l .plan .datatype ≡ getD (describedAs t .columns) (positionOf q) noColumn .datatype .number
+  datatype-is : stagesOf t f r l .plan .datatype ≡ columnIn (describedAs t) (r .position) .datatype .number
   unfolding planFor _>>=_
-  datatype-is = ap (λ (p : Plan). p .datatype) (stages-plan t f q l) ∙ ap (λ (c : Column). c .datatype .number) (target-described (describedAs t) q)
+  datatype-is = ap (λ (p : Plan). p .datatype) (stages-plan t f r l) ∙ ap (λ (c : Column). c .datatype .number) (target-described (describedAs t) r)
 
-  shown-bool : targetFor t f q l .incremental ≡ false → getD (describedAs t .columns) (positionOf q) noColumn .datatype .number ≡ 0 → ⊥
-  shown-bool k = no-bool a _ (rw (k, datatype-is) at (seen-passed t f q l (sym (answer-refused t f q l) ∙ h)))
+  shown-bool : targetFor t f r l .incremental ≡ false → columnIn (describedAs t) (r .position) .datatype .number ≡ 0 → ⊥
+  shown-bool k = no-bool _ (rw (k, datatype-is) at (seen-passed t f r l (sym (answer-refused t f r l) ∙ h)))
 
-  by-kind : (k : Kind) → kindWith (describedAs t .managers) (describedAs t .«manager_count») (bindingIn (describedAs t) (positionOf q) .sequence) ≡ k
-      → Holds f (answerBits (answerOf t f q l))
-  by-kind Other e = absurd (rw (own, e) at (target-held (describedAs t) q (passed t f q l h .held)))
-  by-kind Standard e = standard-holds t f l q (wanted a) h e (shown-bool (standard.kind t f _ l q (wanted a) e refl h))
-  by-kind Incremental e = incremental-holds t f l q (wanted a) h e
+  by-kind : (k : Kind) → kindWith (describedAs t .managers) (describedAs t .«manager_count») (bindingIn (describedAs t) (r .position) .sequence) ≡ k
+      → Holds f (answerBits (answerFor t f r l))
+  by-kind Other e = absurd (rw (target-sequence (describedAs t) r, e) at (target-held (describedAs t) r (passed t f r l h .held)))
+  by-kind Standard e = standard-holds t f l r asked h e (shown-bool (standard.kind t f _ l r asked e refl h))
+  by-kind Incremental e = incremental-holds t f l r asked h e
 
 -- Every view that is not refused, by position or by plan and in both managers, holds its cell.
 pub every-view : EveryView
 every-view t f l row a h = holds f _ (by-kind t f l row a h _ refl)
+
+-- ---- the same bits as Place's: the view's stage is the last, and asks for nothing else
+same-stages : (t f : List ℕ) (l row : ℕ) (a : Asked) → stagesOf t f (requestOf (View row a)) l .refused ≡ 0
+    → stagesOf t f (requestOf (View row a)) l ≡ stagesOf t f (requestOf (Place row a)) l
+unfolding stagesOf stagesAfter targetOf _>>=_
+same-stages t f l row a h =
+    let r = requestOf (View row a) in
+    let seen = isSeen r (targetFor t f r l .incremental) (planOfNow t f r l .datatype) in
+    rw (is-true seen (seen-passed t f r l h))
+
+pub views-place : ViewsPlace
+unfolding answerFor answered
+views-place t f l row a h = rw (same-stages t f l row a (sym (answer-refused t f (requestOf (View row a)) l) ∙ h))

@@ -3,31 +3,17 @@ use Prim.Native.Nat.{ℕ}
 use mathlib.Core.Path.{_≡_}
 use mathlib.Core.List.{List}
 use Rattle.lookup_rules.specs.declared.Asked.{Asked}
-use Rattle.lookup_rules.specs.declared.Asked.the-variants.{Position, Planned}
-use Rattle.lookup_rules.specs.declared.Question.{Question}
-use Rattle.lookup_rules.specs.declared.Question.the-variants.{Place, PlacePlanned}
+use Rattle.lookup_rules.specs.declared.Question.the-variants.{Place}
 use Rattle.standard_rules.specs.Place.{Bits}
-use Rattle.lookup_rules.specs.declared.Answer.{Answer}
 use Rattle.table_rules.specs.Table.{describedAs, bindingIn}
 use Rattle.table_rules.specs.declared.Kind.the-variants.{Standard, Incremental}
-use Rattle.lookup_rules.specs.Questions.{kindWith, answerOf}
+use Rattle.lookup_rules.specs.Questions.{columnOf, kindWith, answerOf}
+use Rattle.lookup_rules.specs.Answers.{answerBits}
 use Rattle.standard_rules.specs.Demand.{Demand3}
 use Rattle.standard_rules.specs.Map.{mapOf}
 use Rattle.incremental_rules.specs.Header.{headerAt}
 use Rattle.incremental_rules.specs.Index.{indexOf}
 use Rattle.incremental_rules.specs.Place.{Safe}
-
-abbrev pub question : ℕ → Asked → Question
-question row (Position c) = Place row c
-question row (Planned p) = PlacePlanned row p
-
--- "a plan's cell is in the plan's column"
-abbrev pub columnOf : Asked → ℕ
-columnOf (Position c) = c
-columnOf (Planned p) = p .position
-
-abbrev pub answerBits : Answer → Bits
-answerBits a = record { first = a .first; count = a .count }
 
 -- "Both columns carry the sequence number the file was accepted for"
 abbrev pub carries : List ℕ → Asked → ℕ → Type 0
@@ -45,11 +31,11 @@ Places =
     → inStandard t sequence
     → carries t a sequence
     → carries t a′ sequence
-    → answerOf t f (question row a) l .refused ≡ 0
-    → answerOf t f (question row′ a′) l′ .refused ≡ 0
+    → answerOf t f (Place row a) l .refused ≡ 0
+    → answerOf t f (Place row′ a′) l′ .refused ≡ 0
     → Demand3 (mapOf (describedAs t) sequence f)
-    (answerBits (answerOf t f (question row a) l))
-    (answerBits (answerOf t f (question row′ a′) l′))
+    (answerBits (answerOf t f (Place row a) l))
+    (answerBits (answerOf t f (Place row′ a′) l′))
     row
     (columnOf a)
     row′
@@ -71,5 +57,5 @@ PlacesThere =
     (t f : List ℕ) (sequence l row : ℕ) (a : Asked)
     → inIncremental t sequence
     → carries t a sequence
-    → answerOf t f (question row a) l .refused ≡ 0
-    → SafeThere t f (answerBits (answerOf t f (question row a) l)) row
+    → answerOf t f (Place row a) l .refused ≡ 0
+    → SafeThere t f (answerBits (answerOf t f (Place row a) l)) row

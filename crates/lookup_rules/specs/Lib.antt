@@ -1,5 +1,6 @@
--- The definitions that the contracts of `lookup` cite, and the statements of demand 3, of stale plans and of views.
+-- The questions, their answers, and the statements on stale plans, on views, and demand 3.
 pub mod Questions
+pub mod Answers
 pub mod Stale
 pub mod Views
 pub mod Demand

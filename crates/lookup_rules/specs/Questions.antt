@@ -1,105 +1,101 @@
 -- Document 01, "The questions" and "Refusal numbers": what each question answers, and the room afterwards.
 use Prim.Native.Nat.{ℕ, _*_, _/_}
-use mathlib.Core.Bool.{Bool, true, false, not, cond, _&&_, _||_}
-use lib.ListN.{take, getD, replicate, drop}
-use lib.Dec.{ltb, eqb}
 use mathlib.Core.List.{List}
-use Rattle.lookup_rules.specs.declared.Question.{Question}
-use Rattle.lookup_rules.specs.declared.Question.the-variants.{Check, Prepare, Place, PlacePlanned, View, ViewPlanned}
+use mathlib.Core.Bool.{Bool, true, false, cond, not, _&&_, _||_}
+use lib.ListN.{length, take, drop, getD, replicate}
+use lib.Dec.{eqb, ltb}
+use Rattle.bytes_at.specs.Lists.{_⇒_, firstBelow}
 use Rattle.bytes_at.specs.Steps.{_>>=_}
-use Rattle.bytes_at.specs.Lists.{firstBelow}
-use Rattle.table_rules.specs.declared.Kind.{Kind}
-use Rattle.table_rules.specs.declared.Manager.{Manager}
-use Rattle.table_rules.specs.ColumnSet.{noManager}
-use Rattle.table_rules.specs.declared.Kind.the-variants.{Other, Standard, Incremental}
 use Rattle.bytes_at.specs.Stages.{_▷_, orNo}
-use Rattle.table_rules.specs.ColumnDesc.{noColumn}
+use Rattle.table_rules.specs.declared.Kind.{Kind}
+use Rattle.table_rules.specs.declared.Kind.the-variants.{Other, Standard, Incremental}
+use Rattle.table_rules.specs.declared.Manager.{Manager}
 use Rattle.table_rules.specs.declared.Description.{Description}
-use Rattle.lookup_rules.specs.declared.Target.{Target}
-use Rattle.table_rules.specs.Table.{bindingIn, describedAs}
+use Rattle.table_rules.specs.ColumnSet.{noManager}
+use Rattle.table_rules.specs.Table.{describedAs, columnIn, bindingIn}
 use Rattle.standard_rules.specs.declared.Checked.{Checked}
-use Rattle.lookup_rules.specs.declared.FileChecked.{FileChecked}
-use Rattle.standard_rules.specs.Index.{noSet, indexTextOf}
-use Rattle.incremental_rules.specs.declared.Checked.{Checked as IncrementalChecked}
-use Rattle.standard_rules.specs.Check.{checkedAs, padded}
-use Rattle.incremental_rules.specs.Check.{checkedAs as incrementalAs}
-use Rattle.standard_rules.specs.Map.{ceil8, mapOf}
-use Rattle.lookup_rules.specs.declared.Plan.{Plan}
-use Rattle.lookup_rules.specs.declared.Staged.{Staged}
-use Rattle.standard_rules.specs.Place.{Bits, placeOf}
-use Rattle.incremental_rules.specs.Place.{placeOf as incrementalPlace}
-use Rattle.lookup_rules.specs.declared.Answer.{Answer}
 use Rattle.standard_rules.specs.Header.{headerAt}
-use Rattle.lookup_rules.specs.declared.Verdict.{Verdict}
-use Rattle.lookup_rules.specs.declared.Verdict.the-variants.{Accepted, Refused as NotAccepted}
-use Rattle.lookup_rules.specs.declared.Planned.{Planned}
-use Rattle.lookup_rules.specs.declared.Planned.the-variants.{Ready, Refused as NotPlanned}
-use Rattle.lookup_rules.specs.declared.Placed.{Placed}
-use Rattle.lookup_rules.specs.declared.Placed.the-variants.{At, Refused as NotPlaced}
+use Rattle.standard_rules.specs.Index.{noSet, indexTextOf}
+use Rattle.standard_rules.specs.Map.{ceil8, mapOf}
+use Rattle.standard_rules.specs.Check.{checkedAs, padded}
+use Rattle.standard_rules.specs.Place.{Bits, placeOf}
+use Rattle.incremental_rules.specs.declared.Checked.{Checked as IncrementalChecked}
+use Rattle.incremental_rules.specs.Check.{checkedAs as incrementalAs}
+use Rattle.incremental_rules.specs.Place.{placeOf as incrementalPlace}
+use Rattle.lookup_rules.specs.declared.Plan.{Plan}
+use Rattle.lookup_rules.specs.declared.Asked.{Asked}
+use Rattle.lookup_rules.specs.declared.Asked.the-variants.{Position, Planned}
+use Rattle.lookup_rules.specs.declared.Question.{Question}
+use Rattle.lookup_rules.specs.declared.Question.the-variants.{Check, Prepare, Place, View}
+use Rattle.lookup_rules.specs.declared.Request.{Request}
+use Rattle.lookup_rules.specs.declared.Target.{Target}
+use Rattle.lookup_rules.specs.declared.FileChecked.{FileChecked}
+use Rattle.lookup_rules.specs.declared.Staged.{Staged}
+use Rattle.lookup_rules.specs.declared.Answer.{Answer}
 
--- the row that a question asks for, 0 where it asks for none
-abbrev pub rowOf : Question → ℕ
-rowOf (Check n) = 0
-rowOf (Prepare c) = 0
-rowOf (Place row c) = row
-rowOf (PlacePlanned row p) = row
-rowOf (View row c) = row
-rowOf (ViewPlanned row p) = row
+-- ---- what is asked
+abbrev pub noPlan : Plan
+noPlan = record { position = 0; sequence = 0; datatype = 0; elements = 0; bits = 0; set = 0; offset = 0; per = 0; size = 0 }
 
--- the column that it asks for, 0 where it asks for none; "a plan's cell is in the plan's column"
-abbrev pub positionOf : Question → ℕ
-positionOf (Check n) = 0
-positionOf (Prepare c) = c
-positionOf (Place row c) = c
-positionOf (PlacePlanned row p) = p .position
-positionOf (View row c) = c
-positionOf (ViewPlanned row p) = p .position
+-- "a plan's cell is in the plan's column"
+abbrev pub columnOf : Asked → ℕ
+columnOf (Position c) = c
+columnOf (Planned p) = p .position
 
--- whether it asks for a cell; a check and a plan do not
-abbrev pub asksCell : Question → Bool
-asksCell (Check n) = false
-asksCell (Prepare c) = false
-asksCell (Place row c) = true
-asksCell (PlacePlanned row p) = true
-asksCell (View row c) = true
-asksCell (ViewPlanned row p) = true
+abbrev pub isPlanned : Asked → Bool
+isPlanned (Position c) = false
+isPlanned (Planned p) = true
 
--- the sequence number that a check is for; the other questions take the column's
-abbrev pub sequenceOf : Question → ℕ → ℕ
-sequenceOf (Check n) own = n
-sequenceOf (Prepare c) own = own
-sequenceOf (Place row c) own = own
-sequenceOf (PlacePlanned row p) own = own
-sequenceOf (View row c) own = own
-sequenceOf (ViewPlanned row p) own = own
+abbrev pub planOf : Asked → Plan
+planOf (Position c) = noPlan
+planOf (Planned p) = p
 
--- whether the column exists; a check asks for none
-abbrev pub isColumn : Question → ℕ → Bool
-isColumn (Check n) count = true
-isColumn (Prepare c) count = ltb c count
-isColumn (Place row c) count = ltb c count
-isColumn (PlacePlanned row p) count = ltb (p .position) count
-isColumn (View row c) count = ltb c count
-isColumn (ViewPlanned row p) count = ltb (p .position) count
+-- a cell of a row, or its view
+abbrev pub cellOf : ℕ → Asked → Bool → Request
+cellOf row a view = record {
+  column = true;
+  cell = true;
+  view = view;
+  planned = isPlanned a;
+  sequence = 0;
+  row = row;
+  position = columnOf a;
+  plan = planOf a;
+}
 
--- the kind of the first manager with a sequence number; there is none where no manager has it
+-- a question, read once; what it does not ask for is 0
+abbrev pub requestOf : Question → Request
+requestOf (Check n) =
+    record { column = false; cell = false; view = false; planned = false; sequence = n; row = 0; position = 0; plan = noPlan }
+requestOf (Prepare c) =
+    record { column = true; cell = false; view = false; planned = false; sequence = 0; row = 0; position = c; plan = noPlan }
+requestOf (Place row a) = cellOf row a false
+requestOf (View row a) = cellOf row a true
+
+-- ---- "manager and column (8)"
+-- whether the column exists, where one is asked for
+abbrev pub isColumn : Request → ℕ → Bool
+isColumn r count = r .column ⇒ ltb (r .position) count
+
+-- the manager is the column's; a check names its own
+abbrev pub sequenceFor : Request → ℕ → ℕ
+sequenceFor r own = cond (r .column) own (r .sequence)
+
+-- the kind of the manager with a sequence number; where no manager has it, none of the two
 unfoldable pub kindWith : List Manager → ℕ → ℕ → Kind
 kindWith managers count sequence =
-    getD managers (firstBelow (λ (k : ℕ). eqb (getD managers k noManager .number) sequence) count) noManager .kind
+    let k = firstBelow (λ (i : ℕ). eqb (getD managers i noManager .number) sequence) count in
+    let kind = getD managers k noManager .kind in
+    cond (ltb k count) kind Other
 
 abbrev pub isIncremental : Kind → Bool
 isIncremental Other = false
 isIncremental Standard = false
 isIncremental Incremental = true
 
--- "For a column of type String, arrays too, .. plan, place and view give 8"; a check asks for no column
-abbrev pub isPlaced : Question → ℕ → Bool
-isPlaced (Check n) datatype = true
-isPlaced (Prepare c) datatype = not (eqb datatype 11)
-isPlaced (Place row c) datatype = not (eqb datatype 11)
-isPlaced (PlacePlanned row p) datatype = not (eqb datatype 11)
-isPlaced (View row c) datatype = not (eqb datatype 11)
-isPlaced (ViewPlanned row p) datatype = not (eqb datatype 11)
+-- "For a column of type String, arrays too, .. plan, place and view give 8"
+abbrev pub isPlaced : Request → ℕ → Bool
+isPlaced r datatype = r .column ⇒ not (eqb datatype 11)
 
 -- whether a question can be asked of a manager of a kind; "columns of other kinds are described, and have no place"
 abbrev pub isHeld : Kind → Bool → Bool
@@ -108,22 +104,21 @@ isHeld Standard placed = true
 isHeld Incremental placed = placed
 
 -- "no such column or manager, or the manager is not of the asked kind": 8
-unfoldable pub targetOf : Description → Question → Target
-targetOf d q = do
-  position ← positionOf q
-  column ← isColumn q (d .«column_count»)
-  r1 ← d .refused ▷ orNo column 8
-  b ← bindingIn d position
-  sequence ← sequenceOf q (b .sequence)
+unfoldable pub targetOf : Description → Request → Target
+targetOf d r = do
+  known ← isColumn r (d .«column_count»)
+  r1 ← d .refused ▷ orNo known 8
+  b ← bindingIn d (r .position)
+  sequence ← sequenceFor r (b .sequence)
   kind ← kindWith (d .managers) (d .«manager_count») sequence
-  c ← getD (d .columns) position noColumn
-  placed ← isPlaced q (c .datatype .number)
+  c ← columnIn d (r .position)
+  placed ← isPlaced r (c .datatype .number)
   held ← isHeld kind placed
   r2 ← r1 ▷ orNo held 8
   incremental ← isIncremental kind
-  record { refused = r2; position = position; sequence = sequence; incremental = incremental; column = c; binding = b }
+  record { refused = r2; position = r .position; sequence = sequence; incremental = incremental; column = c; binding = b }
 
--- the check of the manager's file, by its kind
+-- ---- "file check", by the manager's kind
 abbrev pub ofStandard : Checked → FileChecked
 ofStandard m = record { refused = m .refused; size = m .size; set = m .set; first = 0 }
 
@@ -136,6 +131,7 @@ fileOf d g f row l =
     let incremental = ofIncremental (incrementalAs d (g .sequence) f (g .refused) (g .position) row) in
     cond (g .incremental) incremental standard
 
+-- ---- "plan (12)"
 -- "0, 0, 0 and bucket size for IncrementalStMan"
 abbrev pub ifStandard : Bool → ℕ → ℕ
 ifStandard incremental n = cond incremental 0 n
@@ -177,48 +173,39 @@ samePlan a b = do
   r7 && eqb (a .size) (b .size)
 
 -- a prepared plan is the one that would be made now, else 12
-abbrev pub isFresh : Question → Plan → Bool
-isFresh (Check n) p = true
-isFresh (Prepare c) p = true
-isFresh (Place row c) p = true
-isFresh (PlacePlanned row a) p = samePlan a p
-isFresh (View row c) p = true
-isFresh (ViewPlanned row a) p = samePlan a p
+abbrev pub isFresh : Request → Plan → Bool
+isFresh r p = r .planned ⇒ samePlan (r .plan) p
 
+-- ---- "row (9), 14"
 -- "row not below the row count": 9
-abbrev pub isBelow : Question → ℕ → Bool
-isBelow (Check n) rows = true
-isBelow (Prepare c) rows = true
-isBelow (Place row c) rows = ltb row rows
-isBelow (PlacePlanned row p) rows = ltb row rows
-isBelow (View row c) rows = ltb row rows
-isBelow (ViewPlanned row p) rows = ltb row rows
+abbrev pub isBelow : Request → ℕ → Bool
+isBelow r rows = r .cell ⇒ ltb (r .row) rows
 
 -- "view of a Bool column, scalar or any array, in StandardStMan": 14
-abbrev pub isSeen : Question → Bool → ℕ → Bool
-isSeen (Check n) incremental datatype = true
-isSeen (Prepare c) incremental datatype = true
-isSeen (Place row c) incremental datatype = true
-isSeen (PlacePlanned row p) incremental datatype = true
-isSeen (View row c) incremental datatype = incremental || not (eqb datatype 0)
-isSeen (ViewPlanned row p) incremental datatype = incremental || not (eqb datatype 0)
+abbrev pub isSeen : Request → Bool → ℕ → Bool
+isSeen r incremental datatype = r .view ⇒ incremental || not (eqb datatype 0)
 
--- "Order: table, manager and column (8), file check, plan (12), row (9), 14."
-unfoldable pub stagesOf : List ℕ → List ℕ → Question → ℕ → Staged
-stagesOf t f q l = do
-  d ← describedAs t
-  g ← targetOf d q
-  row ← rowOf q
-  m ← fileOf d g f row l
+-- these stages, after the file check's
+unfoldable pub stagesAfter : Request → Target → FileChecked → ℕ → Staged
+stagesAfter r g m rows = do
   p ← planFor g m
-  fresh ← isFresh q p
+  fresh ← isFresh r p
   r1 ← m .refused ▷ orNo fresh 12
-  below ← isBelow q (d .rows)
+  below ← isBelow r rows
   r2 ← r1 ▷ orNo below 9
-  seen ← isSeen q (g .incremental) (p .datatype)
+  seen ← isSeen r (g .incremental) (p .datatype)
   r3 ← r2 ▷ orNo seen 14
   record { refused = r3; plan = p; sequence = g .sequence; incremental = g .incremental; set = m .set; first = m .first }
 
+-- "Order: table, manager and column (8), file check, plan (12), row (9), 14."
+unfoldable pub stagesOf : List ℕ → List ℕ → Request → ℕ → Staged
+stagesOf t f r l = do
+  d ← describedAs t
+  g ← targetOf d r
+  m ← fileOf d g f (r .row) l
+  stagesAfter r g m (d .rows)
+
+-- ---- what is answered
 -- the place of a cell in the file of the manager with a sequence number, by the manager's kind
 unfoldable pub placeIn : Description → Bool → ℕ → List ℕ → ℕ → ℕ → Bits
 placeIn d incremental sequence f row position =
@@ -226,51 +213,35 @@ placeIn d incremental sequence f row position =
     let here = placeOf (mapOf d sequence f) row position in
     cond incremental there here
 
--- the bits that a question asks for; a check and a plan ask for none
-abbrev pub bitsFor : Question → Bits → Bits
-bitsFor (Check n) b = record { first = 0; count = 0 }
-bitsFor (Prepare c) b = record { first = 0; count = 0 }
-bitsFor (Place row c) b = b
-bitsFor (PlacePlanned row p) b = b
-bitsFor (View row c) b = b
-bitsFor (ViewPlanned row p) b = b
+abbrev pub noBits : Bits
+noBits = record { first = 0; count = 0 }
 
-abbrev pub noPlan : Plan
-noPlan = record { position = 0; sequence = 0; datatype = 0; elements = 0; bits = 0; set = 0; offset = 0; per = 0; size = 0 }
-
--- "A refusal carries its number and zeros."
-unfoldable pub answered : Staged → Bits → Answer
-answered s b =
+-- "A refusal carries its number and zeros." A check answers no plan, and only a place or a view has bits.
+unfoldable pub answered : Request → Staged → Bits → Answer
+answered r s b =
+    let plan = cond (r .column) (s .plan) noPlan in
+    let bits = cond (r .cell) b noBits in
     cond (eqb (s .refused) 0)
-    (record { refused = 0; plan = s .plan; first = b .first; count = b .count })
+    (record { refused = 0; plan = plan; first = bits .first; count = bits .count })
     (record { refused = s .refused; plan = noPlan; first = 0; count = 0 })
 
-unfoldable pub answerOf : List ℕ → List ℕ → Question → ℕ → Answer
-answerOf t f q l =
-    let s = stagesOf t f q l in
-    answered s (bitsFor q (placeIn (describedAs t) (s .incremental) (s .sequence) f (rowOf q) (positionOf q)))
+unfoldable pub answerFor : List ℕ → List ℕ → Request → ℕ → Answer
+answerFor t f r l =
+    let s = stagesOf t f r l in
+    answered r s (placeIn (describedAs t) (s .incremental) (s .sequence) f (r .row) (r .position))
 
 -- "It is all zero after every refusal and for every IncrementalStMan file; after acceptance in StandardStMan it holds the index
 -- text, then zeros."
-unfoldable pub roomAfter : List ℕ → List ℕ → Question → ℕ → List ℕ
-roomAfter t f q l =
-    let s = stagesOf t f q l in
+unfoldable pub roomFor : List ℕ → List ℕ → Request → ℕ → List ℕ
+roomFor t f r l =
+    let s = stagesOf t f r l in
     cond (eqb (s .refused) 0 && not (s .incremental))
     (padded l (indexTextOf f (headerAt f (describedAs t .big))))
     (replicate l 0)
 
--- File check
-unfoldable pub verdictOf : Answer → Verdict
-verdictOf a = cond (eqb (a .refused) 0) Accepted (NotAccepted (a .refused))
+-- Every question over a table and a data file, lent an index room of l bytes: the answer, and the room afterwards.
+abbrev pub answerOf : List ℕ → List ℕ → Question → ℕ → Answer
+answerOf t f q l = answerFor t f (requestOf q) l
 
--- Plan
-unfoldable pub planOf : Answer → Planned
-planOf a = cond (eqb (a .refused) 0) (Ready (a .plan)) (NotPlanned (a .refused))
-
--- Place: "first bit and bit count, counted from the file's start"
-unfoldable pub placedOf : Answer → Placed
-placedOf a = cond (eqb (a .refused) 0) (At (a .first) (a .count)) (NotPlaced (a .refused))
-
--- View: "the part of the caller's file that holds the cell. A refused view is the empty part"
-unfoldable pub viewOf : List ℕ → Answer → List ℕ
-viewOf f a = take (a .count / 8) (drop (a .first / 8) f)
+abbrev pub roomAfter : List ℕ → List ℕ → Question → ℕ → List ℕ
+roomAfter t f q l = roomFor t f (requestOf q) l

@@ -17,21 +17,31 @@ pub struct Plan {
     pub size: usize,
 }
 
-// A question: the check of a sequence number; the plan of a position; the place, or the view, of a row and a position or a
-// plan.
-pub enum Question {
-    Check(usize),
-    Prepare(usize),
-    Place(usize, usize),
-    PlacePlanned(usize, Plan),
-    View(usize, usize),
-    ViewPlanned(usize, Plan),
-}
-
-// How Place is asked for a row.
+// By what a column is asked for: by its position, or by a prepared plan, which has the position of its column.
 pub enum Asked {
     Position(usize),
     Planned(Plan),
+}
+
+// A question: the check of a sequence number's file; the plan of a column's position; the place, or the view, of a row's cell.
+pub enum Question {
+    Check(usize),
+    Prepare(usize),
+    Place(usize, Asked),
+    View(usize, Asked),
+}
+
+// A question, read once: whether it asks for a column, for a cell of the column, for the cell's view, and whether by a prepared plan;
+// the sequence number that a check is for, the row, the column's position, and the plan. What it does not ask for is 0.
+pub struct Request {
+    pub column: bool,
+    pub cell: bool,
+    pub view: bool,
+    pub planned: bool,
+    pub sequence: usize,
+    pub row: usize,
+    pub position: usize,
+    pub plan: Plan,
 }
 
 // The column and the manager that a question is about: what the table says of the column and where it is kept, the manager's sequence

@@ -8,7 +8,7 @@ use native.Mathlib.Omega.{arith}
 use lib.Dec.{ltb}
 use lib.ListN.{length, getD, List·getD-eq-default}
 use borrow.Author.Tests.{lt-ltb, le-ltb}
-use Rattle.bytes_at.specs.Stages.{_▷_, orNo}
+use Rattle.bytes_at.specs.Steps.{_>>=_}
 use Rattle.bytes_at.proofs.Stages.{then-left}
 use Rattle.table_rules.specs.declared.Column.{Column}
 use Rattle.table_rules.specs.ColumnDesc.{noColumn}
@@ -23,19 +23,24 @@ use Rattle.standard_rules.specs.Index.{noSet, indexTextOf}
 use Rattle.standard_rules.specs.declared.Checked.{Checked}
 use Rattle.incremental_rules.specs.declared.Checked.{Checked as IncrementalChecked}
 use Rattle.incremental_rules.specs.Check.{checkedAs as incrementalAs}
-use Rattle.lookup_rules.specs.declared.Question.{Question}
+use Rattle.lookup_rules.specs.declared.Request.{Request}
+use Rattle.lookup_rules.specs.declared.FileChecked.{FileChecked}
+use Rattle.lookup_rules.specs.declared.Staged.{Staged}
 use Rattle.lookup_rules.specs.declared.Target.{Target}
-use Rattle.lookup_rules.specs.Questions.{rowOf, positionOf, targetOf}
+use Rattle.lookup_rules.specs.Questions.{targetOf, fileOf, stagesAfter, stagesOf}
 use Rattle.lookup_rules.proofs.Files.{file-standard, file-incremental}
 use Rattle.table_rules.proofs.Described.{described}
-use Rattle.lookup_stages.specs.Stages.{Taken, Reached}
+use Rattle.lookup_stages.specs.Stages.{targetBy}
 
 -- the stages after the file's check
-pub passed : (n : ℕ) (b1 b2 b3 : Bool) {r1 r2 r3 : ℕ} → r1 ≡ n ▷ orNo b1 12 → r2 ≡ r1 ▷ orNo b2 9 → r3 ≡ r2 ▷ orNo b3 14 → r3 ≡ 0 → n ≡ 0
-passed n b1 b2 b3 {r1} {r2} e1 e2 e3 z =
-    let z2 : r2 ≡ 0 = then-left r2 _ (sym e3 ∙ z) in
-    let z1 : r1 ≡ 0 = then-left r1 _ (sym e2 ∙ z2) in
-    then-left n _ (sym e1 ∙ z1)
+module _ (r : Request) (g : Target) (m : FileChecked) (rows : ℕ) {s : Staged} (e : s ≡ stagesAfter r g m rows) where
+  pub passed : s .refused ≡ 0 → m .refused ≡ 0
+  unfolding stagesAfter _>>=_
+  passed z = then-left _ _ (then-left _ _ (then-left _ _ (sym (ap (λ (x : Staged). x .refused) e) ∙ z)))
+
+  pub same-kind : s .incremental ≡ g .incremental
+  unfolding stagesAfter _>>=_
+  same-kind = ap (λ (x : Staged). x .incremental) e
 
 -- the text, by the description that was read
 pub room-text : (t f : List ℕ) (l : ℕ) {d : Description} {x : List ℕ} → d ≡ describedAs t → x ≡ padded l (indexTextOf f (headerAt f (d .big)))
@@ -52,28 +57,32 @@ picked xs z {i} {at} long e p = elim (decLt i 64) [
   | no l ↦ (rw (le-ltb i 64 (omega arith)) at p) ∙ sym (List·getD-eq-default xs z {n = i} (omega (arith, long)))
 ]
 
-module _ (t : List ℕ) (q : Question) {d : Description} (e : d ≡ describedAs t) where
-  pub taken : {position at : ℕ} {c : Column} {b : Binding} → position ≡ positionOf q → (position < 64 → at ≡ position)
-      → c ≡ cond (ltb position 64) (getD (d .columns) at noColumn) noColumn → b ≡ cond (ltb position 64) (getD (d .bindings) at noBinding) noBinding
-      → Taken d q (d .refused) (d .«column_count») (d .managers) (d .«manager_count») c b
-  taken p a x y =
-      record {
-        refused-is = refl;
-        columns-are = refl;
-        managers-are = refl;
-        count-is = refl;
-        column-is = picked (d .columns) noColumn (rw e (described t .columns-places)) a x ∙ ap (λ i. getD (d .columns) i noColumn) p;
-        binding-is = picked (d .bindings) noBinding (rw e (described t .bindings-places)) a y ∙ ap (λ i. getD (d .bindings) i noBinding) p;
-      }
+-- the column and the manager, by what was taken of the description
+pub target-found : (t : List ℕ) (r : Request) {d : Description} {at : ℕ} {c : Column} {b : Binding} {g : Target} → d ≡ describedAs t
+    → (r .position < 64 → at ≡ r .position)
+    → c ≡ cond (ltb (r .position) 64) (getD (d .columns) at noColumn) noColumn
+    → b ≡ cond (ltb (r .position) 64) (getD (d .bindings) at noBinding) noBinding
+    → g ≡ targetBy (d .refused) (d .«column_count») (d .managers) (d .«manager_count») c b r
+    → g ≡ targetOf d r
+unfolding targetBy targetOf _>>=_
+target-found t r {d} e a x y h =
+    h
+    ∙ rw (
+      picked (d .columns) noColumn (rw e (described t .columns-places)) a x,
+      picked (d .bindings) noBinding (rw e (described t .bindings-places)) a y,
+    )
 
-  module _ (f : List ℕ) (l : ℕ) {g : Target} (h : g ≡ targetOf d q) where
-    pub reached-there : {row : ℕ} {m : IncrementalChecked} {none : Set} → g .incremental ≡ true → row ≡ rowOf q
-        → m ≡ incrementalAs d (g .sequence) f (g .refused) (g .position) row → none ≡ noSet
-        → Reached t f q l g (record { refused = m .refused; size = m .size; set = none; first = m .first }) (d .rows)
-    reached-there k r p n =
-        record { target-is = rw (← e) h; file-is = rw (file-incremental (describedAs t) g f l k (rowOf q), ← e, p, r, n); rows-are = ap (λ (x : Description). x .rows) e }
+-- all stages, from those after the file's check
+module _ (t f : List ℕ) (r : Request) (l : ℕ) {d : Description} (e : d ≡ describedAs t) {g : Target} (h : g ≡ targetOf d r) where
+  all-stages : {m : FileChecked} {s : Staged} → m ≡ fileOf d g f (r .row) l → s ≡ stagesAfter r g m (d .rows) → s ≡ stagesOf t f r l
+  unfolding stagesOf _>>=_
+  all-stages p q = rw (← e, ← h, ← p) q
 
-    pub reached-here : {m : Checked} → g .incremental ≡ false → m ≡ checkedAs d (g .sequence) f (g .refused) (g .binding .set) l
-        → Reached t f q l g (record { refused = m .refused; size = m .size; set = m .set; first = 0 }) (d .rows)
-    reached-here k p =
-        record { target-is = rw (← e) h; file-is = rw (file-standard (describedAs t) g f l k (rowOf q), ← e, p); rows-are = ap (λ (x : Description). x .rows) e }
+  pub stages-there : {m : IncrementalChecked} {none : Set} {s : Staged} → g .incremental ≡ true
+      → m ≡ incrementalAs d (g .sequence) f (g .refused) (g .position) (r .row) → none ≡ noSet
+      → s ≡ stagesAfter r g (record { refused = m .refused; size = m .size; set = none; first = m .first }) (d .rows) → s ≡ stagesOf t f r l
+  stages-there k p n q = all-stages (rw (file-incremental d g f l k (r .row), p, n)) q
+
+  pub stages-here : {m : Checked} {s : Staged} → g .incremental ≡ false → m ≡ checkedAs d (g .sequence) f (g .refused) (g .binding .set) l
+      → s ≡ stagesAfter r g (record { refused = m .refused; size = m .size; set = m .set; first = 0 }) (d .rows) → s ≡ stagesOf t f r l
+  stages-here k p q = all-stages (rw (file-standard d g f l k (r .row), p)) q

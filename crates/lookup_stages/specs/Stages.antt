@@ -1,31 +1,24 @@
--- What the code hands from one stage of a question to the next.
+-- How the code finds the column and the manager of a question: from the numbers of the table that it needs and the column at the
+-- question's position with its binding, so that the table's lists need not be copied. The rule is `targetOf`.
 use Prim.Native.Nat.{ℕ}
-use mathlib.Core.Path.{_≡_}
 use mathlib.Core.List.{List}
-use lib.ListN.{getD}
+use Rattle.bytes_at.specs.Steps.{_>>=_}
+use Rattle.bytes_at.specs.Stages.{_▷_, orNo}
 use Rattle.table_rules.specs.declared.Column.{Column}
-use Rattle.table_rules.specs.ColumnDesc.{noColumn}
 use Rattle.table_rules.specs.declared.Binding.{Binding}
 use Rattle.table_rules.specs.declared.Manager.{Manager}
-use Rattle.table_rules.specs.declared.Description.{Description}
-use Rattle.lookup_rules.specs.declared.Question.{Question}
-use Rattle.lookup_rules.specs.Questions.{positionOf, rowOf, targetOf, fileOf}
-use Rattle.table_rules.specs.Table.{bindingIn, describedAs}
+use Rattle.lookup_rules.specs.declared.Request.{Request}
 use Rattle.lookup_rules.specs.declared.Target.{Target}
-use Rattle.lookup_rules.specs.declared.FileChecked.{FileChecked}
+use Rattle.lookup_rules.specs.Questions.{isColumn, sequenceFor, kindWith, isPlaced, isHeld, isIncremental}
 
--- the refusal, the number of columns, the managers, and the column at the question's position with its binding are those of a table
-pub record Taken (d : Description) (q : Question) (refused columns : ℕ) (managers : List Manager) (count : ℕ) (c : Column) (b : Binding) : Type 0 where
-  pub refused-is : refused ≡ d .refused
-  pub columns-are : columns ≡ d .«column_count»
-  pub managers-are : managers ≡ d .managers
-  pub count-is : count ≡ d .«manager_count»
-  pub column-is : c ≡ getD (d .columns) (positionOf q) noColumn
-  pub binding-is : b ≡ bindingIn d (positionOf q)
-
--- What a table and a file give a question: the column and the manager, what the check of the manager's file tells, and the row
--- count.
-pub record Reached (t f : List ℕ) (q : Question) (l : ℕ) (g : Target) (m : FileChecked) (rows : ℕ) : Type 0 where
-  pub target-is : g ≡ targetOf (describedAs t) q
-  pub file-is : m ≡ fileOf (describedAs t) g f (rowOf q) l
-  pub rows-are : rows ≡ describedAs t .rows
+unfoldable pub targetBy : ℕ → ℕ → List Manager → ℕ → Column → Binding → Request → Target
+targetBy refused columns managers count c b r = do
+  known ← isColumn r columns
+  r1 ← refused ▷ orNo known 8
+  sequence ← sequenceFor r (b .sequence)
+  kind ← kindWith managers count sequence
+  placed ← isPlaced r (c .datatype .number)
+  held ← isHeld kind placed
+  r2 ← r1 ▷ orNo held 8
+  incremental ← isIncremental kind
+  record { refused = r2; position = r .position; sequence = sequence; incremental = incremental; column = c; binding = b }

@@ -6,29 +6,28 @@ ghost use mathlib.Core.List.{List};
 ghost use Prim.Native.Nat.{ℕ, _≤_, _<_};
 ghost use mathlib.Core.Bool.{false};
 ghost use lib.ListN.{length};
-ghost use Rattle.lookup_rules.specs.Questions.{stagesOf};
-ghost use Rattle.lookup_stages.specs.Stages.{Reached};
+ghost use Rattle.lookup_rules.specs.Questions.{stagesAfter, stagesOf};
 ghost use Rattle.table_rules.specs.Table.{describedAs};
 ghost use Rattle.standard_rules.specs.Check.{padded};
 ghost use Rattle.standard_rules.specs.Header.{headerAt};
 ghost use Rattle.standard_rules.specs.Index.{indexTextOf};
 use lookup_rules::FileChecked;
-use lookup_rules::Question;
+use lookup_rules::Request;
 use lookup_rules::Staged;
 use lookup_rules::Target;
 
 // The stages after the check of the manager's file.
-fn finish(q: Question, g: Target, m: FileChecked, rows: usize) -> Staged
-    ensures { λ r. ⌜ ((t f : List ℕ) (l : ℕ) → Reached t f q l g m rows → r ≡ stagesOf t f q l) × (r .refused ≡ 0 → m .refused ≡ 0) × (r .incremental ≡ g .incremental) ⌝ }
-    ensures bounded { λ r. ⌜ (r .plan .offset < 4294967296) × (r .plan .bits ≤ 4294967296) ⌝ }
+fn finish(r: Request, g: Target, m: FileChecked, rows: usize) -> Staged
+    ensures { λ s. ⌜ s ≡ stagesAfter r g m rows ⌝ }
+    ensures bounded { λ s. ⌜ (s .plan .offset < 4294967296) × (s .plan .bits ≤ 4294967296) ⌝ }
 {
     let p = crate::planning::plan_for(g, m);
     let s = m.set;
-    let fresh = lookup_question::tests::fresh(q, p);
+    let fresh = lookup_question::tests::fresh(r, p);
     let r1 = lookup_question::tests::stage(m.refused, fresh, 12);
-    let below = lookup_question::tests::below(q, rows);
+    let below = lookup_question::tests::below(r, rows);
     let r2 = lookup_question::tests::stage(r1, below, 9);
-    let seen = lookup_question::tests::seen(q, g.incremental, p.datatype);
+    let seen = lookup_question::tests::seen(r, g.incremental, p.datatype);
     let r3 = lookup_question::tests::stage(r2, seen, 14);
     Staged {
         refused: r3,
@@ -43,12 +42,12 @@ fn finish(q: Question, g: Target, m: FileChecked, rows: usize) -> Staged
 // All stages in their order. The room holds the index text of a StandardStMan file where none refuses; else it may hold
 // anything. The description is read here, where it lies: a function that takes it copies it. So StandardStMan's check is lent the
 // columns' numbers.
-pub fn stages(table: &[u8], file: &[u8], q: Question, room: &mut [u8]) -> Staged
-    ensures { λ r. ⌜ (r ≡ stagesOf (now (table .entry)) (now (file .entry)) q (length (now (room .entry)))) × (r .refused ≡ 0 → r .incremental ≡ false → now (room .exit) ≡ padded (length (now (room .entry))) (indexTextOf (now (file .entry)) (headerAt (now (file .entry)) (describedAs (now (table .entry)) .big)))) ⌝ }
-    ensures bounded { λ r. ⌜ (r .plan .offset < 4294967296) × (r .plan .bits ≤ 4294967296) ⌝ }
+pub fn stages(table: &[u8], file: &[u8], r: Request, room: &mut [u8]) -> Staged
+    ensures { λ s. ⌜ (s ≡ stagesOf (now (table .entry)) (now (file .entry)) r (length (now (room .entry)))) × (s .refused ≡ 0 → s .incremental ≡ false → now (room .exit) ≡ padded (length (now (room .entry))) (indexTextOf (now (file .entry)) (headerAt (now (file .entry)) (describedAs (now (table .entry)) .big)))) ⌝ }
+    ensures bounded { λ s. ⌜ (s .plan .offset < 4294967296) × (s .plan .bits ≤ 4294967296) ⌝ }
 {
     let d = table::describe(table);
-    let position = lookup_question::parts::position_of(q);
+    let position = r.position;
     let at = crate::planning::place_of(position);
     let described = d.columns[at];
     let bound = d.bindings[at];
@@ -62,11 +61,10 @@ pub fn stages(table: &[u8], file: &[u8], q: Question, room: &mut [u8]) -> Staged
         d.manager_count,
         column,
         binding,
-        q,
+        r,
     );
     if g.incremental {
-        let row = lookup_question::parts::row_of(q);
-        let there = incremental::check(d, file, g.sequence, g.refused, g.position, row);
+        let there = incremental::check(d, file, g.sequence, g.refused, g.position, r.row);
         let none = standard_index::text::no_set();
         let found = FileChecked {
             refused: there.refused,
@@ -74,7 +72,7 @@ pub fn stages(table: &[u8], file: &[u8], q: Question, room: &mut [u8]) -> Staged
             set: none,
             first: there.first,
         };
-        return finish(q, g, found, d.rows);
+        return finish(r, g, found, d.rows);
     }
     let n = d.column_count;
     let sequence = g.sequence;
@@ -113,5 +111,5 @@ pub fn stages(table: &[u8], file: &[u8], q: Question, room: &mut [u8]) -> Staged
         set: set,
         first: 0,
     };
-    finish(q, g, told, d.rows)
+    finish(r, g, told, d.rows)
 }

@@ -6,12 +6,11 @@ ghost use mathlib.Core.Bool.{cond};
 ghost use lib.Dec.{ltb};
 ghost use Rattle.table_rules.specs.ColumnDesc.{noColumn};
 ghost use Rattle.table_rules.specs.ColumnSet.{noBinding};
-ghost use Rattle.lookup_rules.specs.Questions.{kindWith, isIncremental, isHeld, targetOf, ifStandard, bitsIn, planFor, noPlan};
-ghost use Rattle.table_rules.specs.declared.Description.{Description};
-ghost use Rattle.lookup_stages.specs.Stages.{Taken};
+ghost use Rattle.lookup_rules.specs.Questions.{kindWith, isIncremental, isHeld, ifStandard, bitsIn, planFor};
+ghost use Rattle.lookup_stages.specs.Stages.{targetBy};
 use lookup_rules::FileChecked;
 use lookup_rules::Plan;
-use lookup_rules::Question;
+use lookup_rules::Request;
 use lookup_rules::Target;
 use table_rules::Binding;
 use table_rules::Column;
@@ -48,7 +47,7 @@ pub fn binding_if(position: usize, binding: Binding) -> Binding
     table_column_set::bindings::no_binding()
 }
 
-// The kind of the first of the managers with the sequence number; where none has it, of the manager that stands past them.
+// The kind of the manager with the sequence number; where none has it, none of the two.
 pub fn kind_with(managers: [Manager; 16], count: usize, sequence: usize) -> Kind
     requires { ⌜ count ≤ 16 ⌝ }
     ensures { λ r. ⌜ r ≡ kindWith managers count sequence ⌝ }
@@ -61,12 +60,7 @@ pub fn kind_with(managers: [Manager; 16], count: usize, sequence: usize) -> Kind
         }
         i += 1;
     }
-    if i < 16 {
-        let m = managers[i];
-        return m.kind;
-    }
-    let none = table_column_set::data_managers::no_manager();
-    none.kind
+    Kind::Other
 }
 
 pub fn is_incremental(kind: Kind) -> bool
@@ -99,24 +93,23 @@ pub fn find_target(
     count: usize,
     c: Column,
     b: Binding,
-    q: Question,
+    r: Request,
 ) -> Target
     requires { ⌜ count ≤ 16 ⌝ }
-    ensures { λ r. ⌜ ((d : Description) → Taken d q refused columns managers count c b → r ≡ targetOf d q) ⌝ }
+    ensures { λ g. ⌜ g ≡ targetBy refused columns managers count c b r ⌝ }
 {
-    let position = lookup_question::parts::position_of(q);
-    let column = lookup_question::parts::is_column(q, columns);
-    let r1 = lookup_question::tests::stage(refused, column, 8);
-    let sequence = lookup_question::parts::sequence_of(q, b.sequence as usize);
+    let known = lookup_question::tests::is_column(r, columns);
+    let r1 = lookup_question::tests::stage(refused, known, 8);
+    let sequence = lookup_question::tests::sequence_for(r, b.sequence as usize);
     let kind = kind_with(managers, count, sequence);
     let t = c.datatype;
-    let placed = lookup_question::parts::is_placed(q, t.number as usize);
+    let placed = lookup_question::tests::is_placed(r, t.number as usize);
     let held = is_held(kind, placed);
     let r2 = lookup_question::tests::stage(r1, held, 8);
     let incremental = is_incremental(kind);
     Target {
         refused: r2,
-        position: position,
+        position: r.position,
         sequence: sequence,
         incremental: incremental,
         column: c,
@@ -170,22 +163,5 @@ pub fn plan_for(g: Target, m: FileChecked) -> Plan
         offset: offset,
         per: per,
         size: m.size,
-    }
-}
-
-// The plan of a refusal: zeros.
-pub fn no_plan() -> Plan
-    ensures { λ r. ⌜ r ≡ noPlan ⌝ }
-{
-    Plan {
-        position: 0,
-        sequence: 0,
-        datatype: 0,
-        elements: 0,
-        bits: 0,
-        set: 0,
-        offset: 0,
-        per: 0,
-        size: 0,
     }
 }

@@ -14,6 +14,7 @@ use Rattle.table_rules.specs.declared.TableDescHead.{TableDescHead}
 use Rattle.table_rules.specs.ColumnDesc.{noColumn, columnsAt, firstNamed}
 use Rattle.table_rules.specs.ColumnSet.{noManager, noBinding, columnSetHeadAt, managersAt, infosAt, bindingsAt, ownersAt}
 use Rattle.table_rules.specs.declared.Description.{Description}
+use Rattle.table_rules.specs.declared.Column.{Column}
 use Rattle.table_rules.specs.declared.Binding.{Binding}
 use Rattle.table_rules.specs.declared.Position.{Position}
 use Rattle.table_rules.specs.declared.Position.the-variants.{At, Refused}
@@ -85,7 +86,10 @@ describedAs s = do
       })
       (refusedTable (d .refused))
 
--- the binding of the column at a position
+-- the column at a position, and its binding
+abbrev pub columnIn : Description → ℕ → Column
+columnIn d position = getD (d .columns) position noColumn
+
 abbrev pub bindingIn : Description → ℕ → Binding
 bindingIn d position = getD (d .bindings) position noBinding
 
@@ -98,3 +102,12 @@ columnNamed s name = do
   d ← describedAs s
   k ← firstNamed s (d .columns) (d .«column_count») name
   positionOr (d .refused ▷ orNo (ltb k (d .«column_count»)) 8) k
+
+-- what each case of that answer says: document 01's number, 0 where nothing is refused, and the position, 0 where it is refused
+abbrev pub positionRefusal : Position → ℕ
+positionRefusal (At k) = 0
+positionRefusal (Refused n) = n
+
+abbrev pub positionValue : Position → ℕ
+positionValue (At k) = k
+positionValue (Refused n) = 0

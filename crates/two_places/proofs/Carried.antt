@@ -10,24 +10,17 @@ use Rattle.lookup_rules.specs.declared.Asked.{Asked}
 use Rattle.lookup_rules.specs.declared.Answer.{Answer}
 use Rattle.lookup_rules.specs.declared.Placed.{Placed}
 use Rattle.lookup_rules.specs.declared.Placed.the-variants.{At, Refused}
-use Rattle.lookup_rules.specs.Questions.{answerOf, roomAfter, placedOf}
-use Rattle.lookup_rules.specs.Demand.{question, answerBits}
+use Rattle.lookup_rules.specs.Questions.{answerOf, roomAfter}
+use Rattle.lookup_rules.specs.Answers.{placedBits, placedOf, answerBits}
+use Rattle.lookup_rules.specs.declared.Question.the-variants.{Place}
 use Rattle.lookup_rules.proofs.Places.{places}
 use Rattle.lookup_rules.proofs.IncrementalPlaces.{places-there}
 use Rattle.two_places.specs.Demand.{Demanded, PlacedThere}
 
--- the numbers of a place
+-- whether an answer is a place
 abbrev isPlace : Placed → ℕ
 isPlace (At first count) = 1
 isPlace (Refused n) = 0
-
-abbrev firstOf : Placed → ℕ
-firstOf (At first count) = first
-firstOf (Refused n) = 0
-
-abbrev countOf : Placed → ℕ
-countOf (At first count) = count
-countOf (Refused n) = 0
 
 -- an answer that is a place
 module _ (a : Answer) (first count : ℕ) (h : placedOf a ≡ At first count) where
@@ -46,11 +39,11 @@ module _ (a : Answer) (first count : ℕ) (h : placedOf a ≡ At first count) wh
   at-place = rw (eq-eqb (a .refused) 0 unrefused) at h
 
   same-bits : answerBits a ≡ record { first = first; count = count }
-  same-bits = rw (ap firstOf at-place, ap countOf at-place)
+  same-bits = ap placedBits at-place
 
 pub carried : (t f : List ℕ) (l l′ row row′ : ℕ) (a a′ : Asked) {p p′ : Placed}
-    → p ≡ placedOf (answerOf t f (question row a) l)
-    → p′ ≡ placedOf (answerOf t f (question row′ a′) l′)
+    → p ≡ placedOf (answerOf t f (Place row a) l)
+    → p′ ≡ placedOf (answerOf t f (Place row′ a′) l′)
     → Demanded t f row a p row′ a′ p′
 carried t f l l′ row row′ a a′ e e′ = record {
   holds = λ sequence first count first′ count′ i k k′ h h′.
@@ -59,7 +52,7 @@ carried t f l l′ row row′ a a′ e e′ = record {
 }
 
 -- and the same of one place in IncrementalStMan
-pub carried-there : (t f : List ℕ) (l row : ℕ) (a : Asked) {p : Placed} → p ≡ placedOf (answerOf t f (question row a) l) → PlacedThere t f row a p
+pub carried-there : (t f : List ℕ) (l row : ℕ) (a : Asked) {p : Placed} → p ≡ placedOf (answerOf t f (Place row a) l) → PlacedThere t f row a p
 carried-there t f l row a e = record {
   safe = λ sequence first count i k h.
       rw (← (same-bits _ first count (sym e ∙ h))) (places-there t f sequence l row a i k (unrefused _ first count (sym e ∙ h)));
@@ -67,9 +60,9 @@ carried-there t f l row a e = record {
 
 -- `place_by`: an arm's call is the question that is asked
 pub by-arm : (t f : List ℕ) (l row : ℕ) (a b : Asked) {p : Placed} {x : List ℕ} → a ≡ b
-    → (p ≡ placedOf (answerOf t f (question row b) l)) × (x ≡ roomAfter t f (question row b) l)
-    → ((p ≡ placedOf (answerOf t f (question row a) l)) × (x ≡ roomAfter t f (question row a) l)) × PlacedThere t f row a p
+    → (p ≡ placedOf (answerOf t f (Place row b) l)) × (x ≡ roomAfter t f (Place row b) l)
+    → ((p ≡ placedOf (answerOf t f (Place row a) l)) × (x ≡ roomAfter t f (Place row a) l)) × PlacedThere t f row a p
 by-arm t f l row a b {p} {x} e h =
-    let y : p ≡ placedOf (answerOf t f (question row a) l) = h .0 ∙ ap (λ (k : Asked). placedOf (answerOf t f (question row k) l)) (sym e) in
-    let z : x ≡ roomAfter t f (question row a) l = h .1 ∙ ap (λ (k : Asked). roomAfter t f (question row k) l) (sym e) in
+    let y : p ≡ placedOf (answerOf t f (Place row a) l) = h .0 ∙ ap (λ (k : Asked). placedOf (answerOf t f (Place row k) l)) (sym e) in
+    let z : x ≡ roomAfter t f (Place row a) l = h .1 ∙ ap (λ (k : Asked). roomAfter t f (Place row k) l) (sym e) in
     ((y, z), carried-there t f l row a y)

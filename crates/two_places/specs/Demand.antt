@@ -9,7 +9,8 @@ use Rattle.standard_rules.specs.Map.{mapOf}
 use Rattle.lookup_rules.specs.declared.Asked.{Asked}
 use Rattle.lookup_rules.specs.declared.Placed.{Placed}
 use Rattle.lookup_rules.specs.declared.Placed.the-variants.{At}
-use Rattle.lookup_rules.specs.Demand.{columnOf, carries, inStandard, inIncremental, SafeThere}
+use Rattle.lookup_rules.specs.Questions.{columnOf}
+use Rattle.lookup_rules.specs.Demand.{carries, inStandard, inIncremental, SafeThere}
 
 -- where both are placed, both columns carry the sequence number, and the manager is a StandardStMan
 pub record Demanded (t f : List ℕ) (row : ℕ) (a : Asked) (p : Placed) (row′ : ℕ) (a′ : Asked) (p′ : Placed) : Type 0 where

@@ -12,10 +12,9 @@ use lib.ListN.{length, getD, replicate, length-append}
 use borrow.Author.Tests.{eq-eqb, ne-eqb}
 use Rattle.bytes_at.specs.Steps.{_>>=_}
 use Rattle.table_rules.specs.declared.Column.{Column}
-use Rattle.table_rules.specs.ColumnDesc.{noColumn}
 use Rattle.table_rules.specs.declared.Binding.{Binding}
 use Rattle.table_rules.specs.declared.Description.{Description}
-use Rattle.table_rules.specs.Table.{describedAs, bindingIn}
+use Rattle.table_rules.specs.Table.{describedAs, columnIn, bindingIn}
 use Rattle.standard_rules.specs.Check.{padded, refusalOf, checkedAs}
 use Rattle.standard_rules.specs.Map.{Map, MapColumn, columnAt, setAt, setOf, Kept, covers, mapSet, mapColumn, mapOf}
 use Rattle.standard_rules.specs.Place.{Bits, placeOf}
@@ -33,11 +32,12 @@ use Rattle.standard.proofs.place.Bits.{bit-is, entry-known, some-entry}
 use Rattle.standard.proofs.place.Padded.{bit-same}
 use Rattle.lookup_rules.specs.declared.Plan.{Plan}
 use Rattle.lookup_rules.specs.declared.Question.{Question}
+use Rattle.lookup_rules.specs.declared.Request.{Request}
 use Rattle.lookup_rules.specs.declared.FileChecked.{FileChecked}
 use Rattle.lookup_rules.specs.declared.Staged.{Staged}
 use Rattle.lookup_rules.specs.declared.Answer.{Answer}
-use Rattle.lookup_rules.specs.Questions.{rowOf, positionOf, asksCell, targetOf, ofStandard, fileOf, planFor, stagesOf, placeIn, noPlan, answered, answerOf}
-use Rattle.lookup_rules.proofs.CellAsked.{cell-sequence, cell-column, cell-row, bits-for}
+use Rattle.lookup_rules.specs.Questions.{requestOf, targetOf, ofStandard, fileOf, planFor, stagesOf, placeIn, noPlan, noBits, answered, answerFor, answerOf}
+use Rattle.lookup_rules.proofs.CellAsked.{Cell, cell-asked, cell-sequence, cell-column, cell-row}
 use Rattle.standard_rules.proofs.Columns.{column-kept, column-same}
 use Rattle.table_rules.proofs.Described.{described}
 use Rattle.lookup_rules.proofs.Files.{file-standard, file-incremental, standard-refused, incremental-refused, target-passed}
@@ -57,28 +57,28 @@ longer h i = record {
 }
 
 -- ---- where nothing is refused, of a question that asks for a cell of a StandardStMan file
-module _ (t f : List ℕ) (q : Question) (l : ℕ) (z : stagesOf t f q l .refused ≡ 0) (w : T (asksCell q))
-    (k : targetOf (describedAs t) q .incremental ≡ false) where
+module _ (t f : List ℕ) (r : Request) (l : ℕ) (z : stagesOf t f r l .refused ≡ 0) (w : Cell r)
+    (k : targetOf (describedAs t) r .incremental ≡ false) where
   abbrev d : Description
   d = describedAs t
 
   abbrev c : ℕ
-  c = positionOf q
+  c = r .position
 
   abbrev row : ℕ
-  row = rowOf q
+  row = r .row
 
   abbrev b : Binding
   b = bindingIn d c
 
   abbrev sequence : ℕ
-  sequence = targetOf d q .sequence
+  sequence = targetOf d r .sequence
 
   abbrev m : Map
   m = mapOf d sequence f
 
   abbrev before : ℕ
-  before = targetOf d q .refused
+  before = targetOf d r .refused
 
   abbrev text : List ℕ
   text = indexTextOf f (headerAt f (d .big))
@@ -88,21 +88,21 @@ module _ (t f : List ℕ) (q : Question) (l : ℕ) (z : stagesOf t f q l .refuse
   x = getD (indexAt text (headerAt f (d .big) .sets) .sets) (b .set) noSet
 
   own : b .sequence ≡ sequence
-  own = sym (target-sequence d q ∙ cell-sequence q (b .sequence) w)
+  own = sym (target-sequence d r ∙ cell-sequence r (b .sequence) w)
 
   passes : refusalOf d sequence f before l ≡ 0
-  passes = sym (standard-refused d (targetOf d q) f l k row) ∙ check-of t f q l z
+  passes = sym (standard-refused d (targetOf d r) f l k row) ∙ check-of t f r l z
 
   known : c < d .«column_count»
-  known = cell-column q (d .«column_count») w (target-column d q (target-passed d (targetOf d q) f l row (check-of t f q l z)))
+  known = cell-column r (d .«column_count») w (target-column d r (target-passed d (targetOf d r) f l row (check-of t f r l z)))
 
   below : row < d .rows
-  below = cell-row q (d .rows) w (row-passed t f q l z)
+  below = cell-row r (d .rows) w (row-passed t f r l z)
 
   kept : Kept m c
   kept = column-kept d sequence f c known own
 
-  column-is : columnAt m c ≡ mapColumn sequence (getD (d .columns) c noColumn) b
+  column-is : columnAt m c ≡ mapColumn sequence (columnIn d c) b
   column-is = column-same d sequence f c known
 
   listed : b .set < headerAt f (d .big) .sets
@@ -116,30 +116,30 @@ module _ (t f : List ℕ) (q : Question) (l : ℕ) (z : stagesOf t f q l .refuse
   covered = rw (set-same d sequence f before l (b .set) listed) at (set-covered d sequence f before l passes (b .set) listed)
 
   -- what the stages hand over
-  file-is : fileOf d (targetOf d q) f row l ≡ ofStandard (checkedAs d sequence f before (targetOf d q .binding .set) l)
-  file-is = file-standard d (targetOf d q) f l k row
+  file-is : fileOf d (targetOf d r) f row l ≡ ofStandard (checkedAs d sequence f before (targetOf d r .binding .set) l)
+  file-is = file-standard d (targetOf d r) f l k row
 
-  set-is : stagesOf t f q l .set ≡ x
+  set-is : stagesOf t f r l .set ≡ x
   set-is =
-      stages-set t f q l
+      stages-set t f r l
       ∙ ap (λ (m : FileChecked). m .set) file-is
-      ∙ set-told d sequence f before l passes (targetOf d q .binding .set)
-      ∙ ap (λ (y : Binding). getD (indexAt text (headerAt f (d .big) .sets) .sets) (y .set) noSet) (target-binding d q)
+      ∙ set-told d sequence f before l passes (targetOf d r .binding .set)
+      ∙ ap (λ (y : Binding). getD (indexAt text (headerAt f (d .big) .sets) .sets) (y .set) noSet) (target-binding d r)
 
-  size-is : stagesOf t f q l .plan .size ≡ m .size
+  size-is : stagesOf t f r l .plan .size ≡ m .size
   unfolding planFor _>>=_
-  size-is = ap (λ (p : Plan). p .size) (stages-plan t f q l) ∙ ap (λ (m : FileChecked). m .size) file-is ∙ size-told d sequence f before l passes (targetOf d q .binding .set)
+  size-is = ap (λ (p : Plan). p .size) (stages-plan t f r l) ∙ ap (λ (m : FileChecked). m .size) file-is ∙ size-told d sequence f before l passes (targetOf d r .binding .set)
 
-  offset-is : stagesOf t f q l .plan .offset ≡ columnAt m c .offset
+  offset-is : stagesOf t f r l .plan .offset ≡ columnAt m c .offset
   unfolding planFor _>>=_
   offset-is =
-      ap (λ (p : Plan). p .offset) (stages-plan t f q l) ∙ rw k (ap (λ (y : Binding). y .offset) (target-binding d q))
+      ap (λ (p : Plan). p .offset) (stages-plan t f r l) ∙ rw k (ap (λ (y : Binding). y .offset) (target-binding d r))
       ∙ sym (ap (λ (e : MapColumn). e .offset) column-is)
 
-  bits-is : stagesOf t f q l .plan .bits ≡ columnAt m c .bits
+  bits-is : stagesOf t f r l .plan .bits ≡ columnAt m c .bits
   unfolding planFor _>>=_
   bits-is =
-      ap (λ (p : Plan). p .bits) (stages-plan t f q l) ∙ rw k (ap (λ (y : Column). y .bits) (target-described d q))
+      ap (λ (p : Plan). p .bits) (stages-plan t f r l) ∙ rw k (ap (λ (y : Column). y .bits) (target-described d r))
       ∙ sym (ap (λ (e : MapColumn). e .bits) column-is)
 
   inside : SetInside (length text) 4 x
@@ -150,7 +150,7 @@ module _ (t f : List ℕ) (q : Question) (l : ℕ) (z : stagesOf t f q l .refuse
     unfolding padded
     text-fits = rw e (omega (arith, length-append text (replicate (l - length text) 0)))
 
-    findable : stagesOf t f q l .plan .offset < 4294967296 → stagesOf t f q l .plan .bits ≤ 4294967296 → Findable y (stagesOf t f q l) row
+    findable : stagesOf t f r l .plan .offset < 4294967296 → stagesOf t f r l .plan .bits ≤ 4294967296 → Findable y (stagesOf t f r l) row
     findable o n = record {
       inside = rw set-is (longer text-fits inside);
       some = rw set-is (some-entry text x (d .rows) row covered below);
@@ -160,7 +160,7 @@ module _ (t f : List ℕ) (q : Question) (l : ℕ) (z : stagesOf t f q l .refuse
       row-most = omega (arith, below, described t .rows-most);
     }
 
-    first-is : bitByHalving y (stagesOf t f q l .set) (stagesOf t f q l .plan .size) (stagesOf t f q l .plan .offset) (stagesOf t f q l .plan .bits) row
+    first-is : bitByHalving y (stagesOf t f r l .set) (stagesOf t f r l .plan .size) (stagesOf t f r l .plan .offset) (stagesOf t f r l .plan .bits) row
         ≡ placeOf m row c .first
     unfolding padded
     first-is =
@@ -169,76 +169,74 @@ module _ (t f : List ℕ) (q : Question) (l : ℕ) (z : stagesOf t f q l .refuse
         ∙ bit-is text x (d .rows) row covered below m c map-set)
 
 -- ---- the same in IncrementalStMan, where the check has found the cell already
-module _ (t f : List ℕ) (q : Question) (l : ℕ) (k : targetOf (describedAs t) q .incremental ≡ true) where
-  there-first : stagesOf t f q l .refused ≡ 0 → T (asksCell q)
-      → stagesOf t f q l .first ≡ incrementalPlace (describedAs t) (targetOf (describedAs t) q .sequence) f (positionOf q) (rowOf q) .first
+module _ (t f : List ℕ) (r : Request) (l : ℕ) (k : targetOf (describedAs t) r .incremental ≡ true) where
+  there-first : stagesOf t f r l .refused ≡ 0 → Cell r
+      → stagesOf t f r l .first ≡ incrementalPlace (describedAs t) (targetOf (describedAs t) r .sequence) f (r .position) (r .row) .first
   there-first z w =
       let d = describedAs t in
-      let g = targetOf d q in
-      let passed = check-of t f q l z in
-      stages-first t f q l
-      ∙ ap (λ (m : FileChecked). m .first) (file-incremental d g f l k (rowOf q))
-      ∙ ap (λ (c : ℕ). incrementalAs d (g .sequence) f (g .refused) c (rowOf q) .first) (target-position d q)
+      let g = targetOf d r in
+      let passed = check-of t f r l z in
+      stages-first t f r l
+      ∙ ap (λ (m : FileChecked). m .first) (file-incremental d g f l k (r .row))
+      ∙ ap (λ (c : ℕ). incrementalAs d (g .sequence) f (g .refused) c (r .row) .first) (target-position d r)
       ∙ checked-there d (g .sequence) f (g .refused)
-      (sym (incremental-refused d g f l k (rowOf q)) ∙ passed)
+      (sym (incremental-refused d g f l k (r .row)) ∙ passed)
       (described t .columns-most)
-      (positionOf q)
-      (rowOf q)
-      (cell-column q (d .«column_count») w (target-column d q (target-passed d g f l (rowOf q) passed)))
-      (sym (target-sequence d q ∙ cell-sequence q (bindingIn d (positionOf q) .sequence) w))
-      (cell-row q (d .rows) w (row-passed t f q l z))
+      (r .position)
+      (r .row)
+      (cell-column r (d .«column_count») w (target-column d r (target-passed d g f l (r .row) passed)))
+      (sym (target-sequence d r ∙ cell-sequence r (bindingIn d (r .position) .sequence) w))
+      (cell-row r (d .rows) w (row-passed t f r l z))
 
-  there-count : stagesOf t f q l .plan .bits ≡ incrementalPlace (describedAs t) (targetOf (describedAs t) q .sequence) f (positionOf q) (rowOf q) .count
+  there-count : stagesOf t f r l .plan .bits ≡ incrementalPlace (describedAs t) (targetOf (describedAs t) r .sequence) f (r .position) (r .row) .count
   unfolding planFor incrementalPlace _>>=_
-  there-count = ap (λ (p : Plan). p .bits) (stages-plan t f q l) ∙ rw (k, target-described (describedAs t) q)
+  there-count = ap (λ (p : Plan). p .bits) (stages-plan t f r l) ∙ rw (k, target-described (describedAs t) r)
 
 -- ---- `cell_bit`
-module _ (y : List ℕ) (s : Staged) (q : Question) where
-  cell-here : s .refused ≡ 0 → T (asksCell q) → s .incremental ≡ false
-      → cellBit y s q ≡ bitByHalving y (s .set) (s .plan .size) (s .plan .offset) (s .plan .bits) (rowOf q)
+module _ (y : List ℕ) (s : Staged) (r : Request) where
+  cell-here : s .refused ≡ 0 → r .cell ≡ true → s .incremental ≡ false
+      → cellBit y s r ≡ bitByHalving y (s .set) (s .plan .size) (s .plan .offset) (s .plan .bits) (r .row)
   unfolding cellBit
-  cell-here z w k = rw (eq-eqb (s .refused) 0 z, is-true (asksCell q) w, k)
+  cell-here z w k = rw (eq-eqb (s .refused) 0 z, w, k)
 
-  cell-there : s .refused ≡ 0 → T (asksCell q) → s .incremental ≡ true → cellBit y s q ≡ s .first
+  cell-there : s .refused ≡ 0 → r .cell ≡ true → s .incremental ≡ true → cellBit y s r ≡ s .first
   unfolding cellBit
-  cell-there z w k = rw (eq-eqb (s .refused) 0 z, is-true (asksCell q) w, k)
+  cell-there z w k = rw (eq-eqb (s .refused) 0 z, w, k)
 
-  pub bit-refused : (s .refused ≡ 0 → ⊥) → 0 ≡ cellBit y s q
+  pub bit-refused : (s .refused ≡ 0 → ⊥) → 0 ≡ cellBit y s r
   unfolding cellBit
   bit-refused n = rw (ne-eqb (s .refused) 0 n)
 
-  pub bit-none : {w : Bool} → s .refused ≡ 0 → w ≡ asksCell q → w ≡ false → 0 ≡ cellBit y s q
+  pub bit-none : s .refused ≡ 0 → r .cell ≡ false → 0 ≡ cellBit y s r
   unfolding cellBit
-  bit-none z e n = rw (eq-eqb (s .refused) 0 z, ← e, n)
+  bit-none z n = rw (eq-eqb (s .refused) 0 z, n)
 
-  module _ {w : Bool} (z : s .refused ≡ 0) (e : w ≡ asksCell q) (k : w ≡ true) where
-    asked : T (asksCell q)
-    asked = rw (← e, k) tt
+  module _ (z : s .refused ≡ 0) (w : r .cell ≡ true) where
+    pub bit-there : s .incremental ≡ true → s .first ≡ cellBit y s r
+    bit-there i = sym (cell-there z w i)
 
-    pub bit-there : s .incremental ≡ true → s .first ≡ cellBit y s q
-    bit-there i = sym (cell-there z asked i)
+    module _ (i : s .incremental ≡ false) (h : s .refused ≡ 0 → r .cell ≡ true → s .incremental ≡ false → Findable y s (r .row)) where
+      pub can-find : Findable y s (r .row)
+      can-find = h z w i
 
-    module _ {row : ℕ} (i : s .incremental ≡ false) (o : row ≡ rowOf q)
-        (h : s .refused ≡ 0 → T (asksCell q) → s .incremental ≡ false → Findable y s (rowOf q)) where
-      pub can-find : Findable y s row
-      can-find = rw o (h z asked i)
-
-      pub bit-here : {r : ℕ} → (0 < s .set .entries → r ≡ bitByHalving y (s .set) (s .plan .size) (s .plan .offset) (s .plan .bits) row) → r ≡ cellBit y s q
-      bit-here f = f (can-find .some) ∙ rw o (sym (cell-here z asked i))
+      pub bit-here : {b : ℕ} → (0 < s .set .entries → b ≡ bitByHalving y (s .set) (s .plan .size) (s .plan .offset) (s .plan .bits) (r .row)) → b ≡ cellBit y s r
+      bit-here f = f (can-find .some) ∙ sym (cell-here z w i)
 
 -- ---- `answer`
-module _ (s : Staged) (q : Question) (first : ℕ) where
-  pub answer-refused : {p : Plan} → p ≡ noPlan → (s .refused ≡ 0 → ⊥) → record { refused = s .refused; plan = p; first = 0; count = 0 } ≡ answerWith s q first
-  unfolding answerWith answered
+module _ (r : Request) (s : Staged) (first : ℕ) where
+  pub answer-refused : {p : Plan} → p ≡ noPlan → (s .refused ≡ 0 → ⊥) → record { refused = s .refused; plan = p; first = 0; count = 0 } ≡ answerWith r s first
+  unfolding answered
   answer-refused e n = rw (ne-eqb (s .refused) 0 n, e)
 
-  pub answer-cell : {w : Bool} → s .refused ≡ 0 → w ≡ asksCell q → w ≡ true → record { refused = 0; plan = s .plan; first = first; count = s .plan .bits } ≡ answerWith s q first
-  unfolding answerWith answered
-  answer-cell z e k = rw (eq-eqb (s .refused) 0 z, ← e, k)
+  pub answer-cell : {p : Plan} → s .refused ≡ 0 → r .cell ≡ true → p ≡ cond (r .column) (s .plan) noPlan
+      → record { refused = 0; plan = p; first = first; count = s .plan .bits } ≡ answerWith r s first
+  unfolding answered
+  answer-cell z k e = rw (eq-eqb (s .refused) 0 z, k, e)
 
-  pub answer-none : {w : Bool} → s .refused ≡ 0 → w ≡ asksCell q → w ≡ false → record { refused = 0; plan = s .plan; first = 0; count = 0 } ≡ answerWith s q first
-  unfolding answerWith answered
-  answer-none z e k = rw (eq-eqb (s .refused) 0 z, ← e, k)
+  pub answer-none : {p : Plan} → s .refused ≡ 0 → r .cell ≡ false → p ≡ cond (r .column) (s .plan) noPlan
+      → record { refused = 0; plan = p; first = 0; count = 0 } ≡ answerWith r s first
+  unfolding answered
+  answer-none z k e = rw (eq-eqb (s .refused) 0 z, k, e)
 
 -- ---- the answer, by what the calls of `ask` give
 -- where a cell is asked for, and found
@@ -249,56 +247,60 @@ same-cell false p p′ n h = refl
 same-bits : (p : Bits) {first count : ℕ} → first ≡ p .first → count ≡ p .count → record { first = first; count = count } ≡ p
 same-bits p e k = rw (e, k)
 
--- a refusal carries no bits
-answered-same : (s : Staged) {p p′ : Bits} → (s .refused ≡ 0 → p ≡ p′) → answered s p ≡ answered s p′
+-- a refusal carries no bits, nor does a question that asks for none
+answered-same : (r : Request) (s : Staged) {p p′ : Bits} → (s .refused ≡ 0 → T (r .cell) → p ≡ p′) → answered r s p ≡ answered r s p′
 unfolding answered
-answered-same s {p} {p′} h = elim (ℕ-discrete (s .refused) 0) [
-  | yes e ↦ ap (λ (k : Bits). answered s k) (h e)
+answered-same r s {p} {p′} h = elim (ℕ-discrete (s .refused) 0) [
+  | yes e ↦ rw (eq-eqb (s .refused) 0 e) (ap (λ (k : Bits). record { refused = 0; plan = cond (r .column) (s .plan) noPlan; first = k .first; count = k .count }) (same-cell (r .cell) p p′ noBits (h e)))
   | no n ↦ rw (ne-eqb (s .refused) 0 n)
 ]
 
-module _ (t f : List ℕ) (q : Question) (l : ℕ) {s : Staged} {y : List ℕ} (e : s ≡ stagesOf t f q l)
+module _ (t f : List ℕ) (q : Question) (l : ℕ) {r : Request} (o : r ≡ requestOf q) {s : Staged} {y : List ℕ} (e : s ≡ stagesOf t f r l)
     (h : s .refused ≡ 0 → s .incremental ≡ false → y ≡ padded l (indexTextOf f (headerAt f (describedAs t .big)))) where
   -- the place of the cell
   abbrev place : Bits
-  place = placeIn (describedAs t) (s .incremental) (s .sequence) f (rowOf q) (positionOf q)
+  place = placeIn (describedAs t) (s .incremental) (s .sequence) f (r .row) (r .position)
 
-  kind : {b : Bool} → s .incremental ≡ b → targetOf (describedAs t) q .incremental ≡ b
-  kind k = sym (ap (λ (x : Staged). x .incremental) e ∙ stages-kind t f q l) ∙ k
+  kind : {b : Bool} → s .incremental ≡ b → targetOf (describedAs t) r .incremental ≡ b
+  kind k = sym (ap (λ (x : Staged). x .incremental) e ∙ stages-kind t f r l) ∙ k
 
-  same-sequence : s .sequence ≡ targetOf (describedAs t) q .sequence
-  same-sequence = ap (λ (x : Staged). x .sequence) e ∙ stages-sequence t f q l
+  same-sequence : s .sequence ≡ targetOf (describedAs t) r .sequence
+  same-sequence = ap (λ (x : Staged). x .sequence) e ∙ stages-sequence t f r l
 
-  pub findable-by : s .plan .offset < 4294967296 → s .plan .bits ≤ 4294967296 → s .refused ≡ 0 → T (asksCell q) → s .incremental ≡ false → Findable y s (rowOf q)
-  findable-by o n z w k = rw e (findable t f q l (rw e at z) w (kind k) (h z k) (rw e at o) (rw e at n))
+  -- a cell is a column's
+  asked : r .cell ≡ true → Cell r
+  asked w = rw o (cell-asked q (rw (← o, w) tt))
 
-  found-here : s .refused ≡ 0 → T (asksCell q) → s .incremental ≡ false → cellBit y s q ≡ place .first
+  pub findable-by : s .plan .offset < 4294967296 → s .plan .bits ≤ 4294967296 → s .refused ≡ 0 → r .cell ≡ true → s .incremental ≡ false → Findable y s (r .row)
+  findable-by o n z w k = rw e (findable t f r l (rw e at z) (asked w) (kind k) (h z k) (rw e at o) (rw e at n))
+
+  found-here : s .refused ≡ 0 → r .cell ≡ true → s .incremental ≡ false → cellBit y s r ≡ place .first
   found-here z w k =
-      cell-here y s q z w k ∙ rw (k, same-sequence, place-standard (describedAs t) _ f (rowOf q) (positionOf q)) (rw e (first-is t f q l (rw e at z) w (kind k) (h z k)))
+      cell-here y s r z w k ∙ rw (k, same-sequence, place-standard (describedAs t) _ f (r .row) (r .position)) (rw e (first-is t f r l (rw e at z) (asked w) (kind k) (h z k)))
 
-  counted-here : s .refused ≡ 0 → T (asksCell q) → s .incremental ≡ false → s .plan .bits ≡ place .count
+  counted-here : s .refused ≡ 0 → r .cell ≡ true → s .incremental ≡ false → s .plan .bits ≡ place .count
   counted-here z w k =
-      rw (k, same-sequence, place-standard (describedAs t) _ f (rowOf q) (positionOf q)) (rw e (bits-is t f q l (rw e at z) w (kind k)))
+      rw (k, same-sequence, place-standard (describedAs t) _ f (r .row) (r .position)) (rw e (bits-is t f r l (rw e at z) (asked w) (kind k)))
 
-  found-there : s .refused ≡ 0 → T (asksCell q) → s .incremental ≡ true → cellBit y s q ≡ place .first
+  found-there : s .refused ≡ 0 → r .cell ≡ true → s .incremental ≡ true → cellBit y s r ≡ place .first
   found-there z w k =
-      cell-there y s q z w k ∙ rw (k, same-sequence, place-there (describedAs t) _ f (rowOf q) (positionOf q)) (rw e (there-first t f q l (kind k) (rw e at z) w))
+      cell-there y s r z w k ∙ rw (k, same-sequence, place-there (describedAs t) _ f (r .row) (r .position)) (rw e (there-first t f r l (kind k) (rw e at z) (asked w)))
 
-  counted-there : s .refused ≡ 0 → T (asksCell q) → s .incremental ≡ true → s .plan .bits ≡ place .count
+  counted-there : s .refused ≡ 0 → r .cell ≡ true → s .incremental ≡ true → s .plan .bits ≡ place .count
   counted-there z w k =
-      rw (k, same-sequence, place-there (describedAs t) _ f (rowOf q) (positionOf q)) (rw e (there-count t f q l (kind k)))
+      rw (k, same-sequence, place-there (describedAs t) _ f (r .row) (r .position)) (rw e (there-count t f r l (kind k)))
 
-  found : (b : Bool) → s .incremental ≡ b → s .refused ≡ 0 → T (asksCell q) → cellBit y s q ≡ place .first
+  found : (b : Bool) → s .incremental ≡ b → s .refused ≡ 0 → r .cell ≡ true → cellBit y s r ≡ place .first
   found true k z w = found-there z w k
   found false k z w = found-here z w k
 
-  counted : (b : Bool) → s .incremental ≡ b → s .refused ≡ 0 → T (asksCell q) → s .plan .bits ≡ place .count
+  counted : (b : Bool) → s .incremental ≡ b → s .refused ≡ 0 → r .cell ≡ true → s .plan .bits ≡ place .count
   counted true k z w = counted-there z w k
   counted false k z w = counted-here z w k
 
-  pub answer-by : {first : ℕ} {a : Answer} → first ≡ cellBit y s q → a ≡ answerWith s q first → a ≡ answerOf t f q l
-  unfolding answerWith answerOf
+  pub answer-by : {first : ℕ} {a : Answer} → first ≡ cellBit y s r → a ≡ answerWith r s first → a ≡ answerOf t f q l
+  unfolding answerFor
   answer-by {first} {a} i j =
       j
-      ∙ answered-same s (λ z. same-cell (asksCell q) _ _ _ (λ w. same-bits place (i ∙ found (s .incremental) refl z w) (counted (s .incremental) refl z w)))
-      ∙ rw (← (bits-for q _), e)
+      ∙ answered-same r s (λ z w. same-bits place (i ∙ found (s .incremental) refl z (is-true (r .cell) w)) (counted (s .incremental) refl z (is-true (r .cell) w)))
+      ∙ rw (← o, e)

@@ -12,8 +12,9 @@ use Rattle.standard_rules.specs.Check.{padded}
 use Rattle.standard_rules.specs.Header.{headerAt}
 use Rattle.standard_rules.specs.Index.{indexTextOf}
 use Rattle.lookup_rules.specs.declared.Question.{Question}
+use Rattle.lookup_rules.specs.declared.Request.{Request}
 use Rattle.lookup_rules.specs.declared.Staged.{Staged}
-use Rattle.lookup_rules.specs.Questions.{stagesOf, roomAfter}
+use Rattle.lookup_rules.specs.Questions.{requestOf, stagesOf, roomFor, roomAfter}
 use Rattle.lookup.specs.Answering.{keepsText, roomSettled}
 
 -- what is kept is not refused, and is a StandardStMan's
@@ -32,16 +33,17 @@ pub keeps-other : (s : Staged) {k : Bool} → s .refused ≡ 0 → k ≡ not (s 
 keeps-other s z e = rw (eq-eqb (s .refused) 0 z) e
 
 -- a room that is kept or cleared
-module _ (t f : List ℕ) (q : Question) (l : ℕ) where
-  room-by : {s : Staged} {x x′ : List ℕ} → s ≡ stagesOf t f q l
+module _ (t f : List ℕ) (r : Request) (l : ℕ) where
+  room-by : {s : Staged} {x x′ : List ℕ} → s ≡ stagesOf t f r l
       → (s .refused ≡ 0 → s .incremental ≡ false → x ≡ padded l (indexTextOf f (headerAt f (describedAs t .big)))) → length x ≡ l
-      → (k : Bool) → k ≡ keepsText s → x′ ≡ roomSettled k x → x′ ≡ roomAfter t f q l
-  unfolding roomSettled roomAfter
+      → (k : Bool) → k ≡ keepsText s → x′ ≡ roomSettled k x → x′ ≡ roomFor t f r l
+  unfolding roomSettled roomFor
   room-by {s} {x} {x′} es h el true ek ex =
       rw (← es, ← ek) (ex ∙ h (kept-first (s .refused) (s .incremental) (sym ek)) (kept-second (s .refused) (s .incremental) (sym ek)))
   room-by {s} {x} {x′} es h el false ek ex = rw (← es, ← ek) (ex ∙ ap (λ (k : ℕ). replicate k 0) el)
 
-  pub room-is : {s : Staged} {x x′ : List ℕ} {k : Bool} → s ≡ stagesOf t f q l
-      → (s .refused ≡ 0 → s .incremental ≡ false → x ≡ padded l (indexTextOf f (headerAt f (describedAs t .big)))) → length x ≡ l
-      → k ≡ keepsText s → x′ ≡ roomSettled k x → x′ ≡ roomAfter t f q l
-  room-is {s} {x} {x′} {k} es h el ek ex = room-by es h el k ek ex
+-- of a question, by what it asks for
+pub room-is : (t f : List ℕ) (q : Question) (l : ℕ) {r : Request} {s : Staged} {x x′ : List ℕ} {k : Bool} → r ≡ requestOf q → s ≡ stagesOf t f r l
+    → (s .refused ≡ 0 → s .incremental ≡ false → x ≡ padded l (indexTextOf f (headerAt f (describedAs t .big)))) → length x ≡ l
+    → k ≡ keepsText s → x′ ≡ roomSettled k x → x′ ≡ roomAfter t f q l
+room-is t f q l {r} {s} {x} {x′} {k} o es h el ek ex = room-by t f r l es h el k ek ex ∙ ap (λ (y : Request). roomFor t f y l) o

@@ -2,7 +2,7 @@
 use borrow.Author.Needs.{needs}
 use mathlib.Core.Path.{ap, _∙_}
 use Rattle.bytes_at.proofs.Stepped.{free}
-use Rattle.lookup_rules.specs.Questions.{verdictOf}
+use Rattle.lookup_rules.specs.Answers.{verdictOf}
 use Rattle.lookup.proofs.check.Statement.{statement}
 use Rattle.lookup.proofs.check.Tie as tie
 

@@ -2,7 +2,7 @@
 use borrow.Author.Needs.{needs}
 use mathlib.Core.Path.{ap, _∙_}
 use Rattle.bytes_at.proofs.Stepped.{free}
-use Rattle.lookup_rules.specs.Questions.{placedOf}
+use Rattle.lookup_rules.specs.Answers.{placedOf}
 use Rattle.lookup.proofs.place_planned.Statement.{statement}
 use Rattle.lookup.proofs.place_planned.Tie as tie
 

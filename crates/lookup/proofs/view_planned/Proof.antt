@@ -5,7 +5,7 @@ use denote.Ref.{now, ptr}
 use lib.ListN.{length}
 use Rattle.bytes_at.proofs.Stepped.{free}
 use Rattle.lookup_rules.specs.declared.Asked.the-variants.{Planned}
-use Rattle.lookup_rules.specs.Questions.{viewOf}
+use Rattle.lookup_rules.specs.Answers.{viewOf}
 use Rattle.lookup.proofs.Begins.{begins}
 use Rattle.lookup.proofs.view_planned.Statement.{statement}
 use Rattle.lookup.proofs.view_planned.Tie as tie

@@ -5,7 +5,7 @@ use Rattle.lookup_rules.specs.declared.Verdict.the-variants.{Accepted, Refused 
 use Rattle.lookup_rules.specs.declared.Planned.the-variants.{Ready, Refused as NotPlanned}
 use Rattle.lookup_rules.specs.declared.Placed.the-variants.{At, Refused as NotPlaced}
 use Rattle.lookup_rules.specs.declared.Answer.{Answer}
-use Rattle.lookup_rules.specs.Questions.{verdictOf, planOf, placedOf}
+use Rattle.lookup_rules.specs.Answers.{verdictOf, plannedOf, placedOf}
 
 module _ (a : Answer) where
   pub checked : a .refused ≡ 0 → Accepted ≡ verdictOf a
@@ -16,12 +16,12 @@ module _ (a : Answer) where
   unfolding verdictOf
   not-checked n = rw (ne-eqb (a .refused) 0 n)
 
-  pub planned-ready : a .refused ≡ 0 → Ready (a .plan) ≡ planOf a
-  unfolding planOf
+  pub planned-ready : a .refused ≡ 0 → Ready (a .plan) ≡ plannedOf a
+  unfolding plannedOf
   planned-ready z = rw (eq-eqb (a .refused) 0 z)
 
-  pub not-planned : (a .refused ≡ 0 → ⊥) → NotPlanned (a .refused) ≡ planOf a
-  unfolding planOf
+  pub not-planned : (a .refused ≡ 0 → ⊥) → NotPlanned (a .refused) ≡ plannedOf a
+  unfolding plannedOf
   not-planned n = rw (ne-eqb (a .refused) 0 n)
 
   pub placed-at : a .refused ≡ 0 → At (a .first) (a .count) ≡ placedOf a

@@ -1,31 +1,21 @@
 -- `lookup_stages::finish` meets its contract: its calls compose as the definition says.
 use mathlib.Core.Path.{refl}
 use Rattle.bytes_at.proofs.Stepped.{via, free}
-use Rattle.lookup_rules.specs.Questions.{stagesOf}
-use Rattle.lookup_stages.proofs.Laws.{passed}
+use Rattle.lookup_rules.specs.Questions.{stagesAfter}
 use Rattle.lookup_stages.proofs.finish.Statement.{statement}
 use Rattle.lookup_stages.proofs.finish.Tie as tie
 
 returns : tie.Need-returns
-unfolding stagesOf
+unfolding stagesAfter
 returns c = (
-  (
-    λ t f l v.
-        via _ refl
-        (via _ (v .target-is)
-        (via _ refl
-        (via _ (v .file-is)
-        (via _ (c .before .before .before .before .before .before .before .plan-for .ensures .0)
-        (via _ (c .before .before .before .before .before .fresh .ensures)
-        (via _ (c .before .before .before .before .stage .ensures)
-        (via _ (rw (← v .rows-are) (c .before .before .before .below .ensures))
-        (via _ (c .before .before .stage2 .ensures)
-        (via _ (c .before .seen .ensures)
-        (via _ (c .stage3 .ensures)
-        refl)))))))))),
-    λ z. passed _ _ _ _ (c .before .before .before .before .stage .ensures) (c .before .before .stage2 .ensures) (c .stage3 .ensures) z,
-    refl,
-  ),
+  via _ (c .before .before .before .before .before .before .before .plan-for .ensures .0)
+      (via _ (c .before .before .before .before .before .fresh .ensures)
+      (via _ (c .before .before .before .before .stage .ensures)
+      (via _ (c .before .before .before .below .ensures)
+      (via _ (c .before .before .stage2 .ensures)
+      (via _ (c .before .seen .ensures)
+      (via _ (c .stage3 .ensures)
+      refl)))))),
   c .before .before .before .before .before .before .before .plan-for .ensures .1,
 )
 

@@ -9,7 +9,8 @@ answer-spec =
     tie.close
     (tie.spec
     free
-    free
     (λ c. answer-refused _ _ _ (c .no-plan .ensures) (c .before .if1 .taken))
-    (λ c. answer-cell _ _ _ (c .before .before .if1 .left) (c .before .before .before .asks-cell .ensures) (c .if2 .taken))
-    (λ c. answer-none _ _ _ (c .before .before .if1 .left) (c .before .before .before .asks-cell .ensures) (c .if2 .left)))
+    free
+    (λ c. answer-cell _ _ _ (c .before .before .before .if1 .left) (c .before .if2 .taken) (c .told .ensures))
+    free
+    (λ c. answer-none _ _ _ (c .before .before .before .if1 .left) (c .before .if2 .left) (c .told2 .ensures)))

@@ -1,6 +1,6 @@
 -- `lookup_question::types::part_of` meets its contract.
 use Rattle.bytes_at.proofs.Stepped.{free}
-use Rattle.lookup_rules.specs.Questions.{viewOf}
+use Rattle.lookup_rules.specs.Answers.{viewOf}
 use Rattle.lookup_question.proofs.types.part_of.Statement.{statement}
 use Rattle.lookup_question.proofs.types.part_of.Tie as tie
 

@@ -1,20 +1,27 @@
--- `lookup_stages::planning::find_target` meets its contract.
+-- `lookup_stages::planning::find_target` meets its contract: its calls compose as the definition says.
+use mathlib.Core.Path.{refl}
 use borrow.Author.Needs.{needs}
-use Rattle.bytes_at.proofs.Stepped.{free}
-use Rattle.lookup_stages.proofs.planning.Found.{target-is}
+use Rattle.bytes_at.proofs.Stepped.{via, free}
+use Rattle.lookup_stages.specs.Stages.{targetBy}
 use Rattle.lookup_stages.proofs.planning.find_target.Statement.{statement}
 use Rattle.lookup_stages.proofs.planning.find_target.Tie as tie
 
 returns : tie.Need-returns
-returns c d v =
-    target-is d _ v (c .before .before .before .before .before .before .before .before .before .before .before .position-of .ensures) (c .before .before .before .before .before .before .before .before .before .before .is-column .ensures) (c .before .before .before .before .before .before .before .before .before .stage .ensures) (c .before .before .before .before .before .before .before .sequence-of .ensures) (c .before .before .before .before .before .before .kind-with .ensures)
-    (c .before .before .before .is-placed .ensures) (c .before .before .is-held .ensures) (c .before .stage2 .ensures) (c .is-incremental .ensures)
+unfolding targetBy
+returns c =
+    via _ (c .before .before .before .before .before .before .before .before .before .before .is-column .ensures) (
+    via _ (c .before .before .before .before .before .before .before .before .before .stage .ensures) (
+    via _ (c .before .before .before .before .before .before .before .sequence-for .ensures) (
+    via _ (c .before .before .before .before .before .before .kind-with .ensures) (
+    via _ (c .before .before .before .is-placed .ensures) (
+    via _ (c .before .before .is-held .ensures) (
+    via _ (c .before .stage2 .ensures) (
+    via _ (c .is-incremental .ensures)
+    refl)))))))
 
 pub find-target-spec : {M : Type 1} → statement M
 find-target-spec =
-    tie.close
-    (tie.spec
-    free
+    tie.close (tie.spec
     free
     free
     (λ c. search needs)

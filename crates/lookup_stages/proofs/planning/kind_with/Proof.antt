@@ -8,7 +8,7 @@ use lib.Dec.{eqb}
 use lib.ListN.{getD}
 use Rattle.bytes_at.proofs.Searched.{Searched, searched-none, searched-on, searched-here, searched-out}
 use Rattle.table_rules.specs.ColumnSet.{noManager}
-use Rattle.lookup_stages.proofs.planning.Found.{kind-is, kind-past}
+use Rattle.lookup_stages.proofs.planning.Found.{kind-is, kind-none}
 use Rattle.lookup_stages.proofs.planning.kind_with.Statement.{statement}
 use Rattle.lookup_stages.proofs.planning.kind_with.Tie as tie
 
@@ -20,18 +20,14 @@ abbrev μ-loop : tie.MeasureT-loop
 
 returns : tie.Need-returns Inv-loop μ-loop
 unfolding noManager
-returns c = kind-is _ _ _ _ (searched-here (c .before .before .before .before .loop .inv) (omega arith) (eq-eqb _ _ (c .if1 .taken))) refl
+returns c = kind-is _ _ _ _ (searched-here (c .before .before .before .before .loop .inv) (omega arith) (eq-eqb _ _ (c .if1 .taken))) (omega arith) refl
 
 loop-again : tie.Need-loop-again Inv-loop μ-loop
 unfolding noManager
 loop-again c = searched-on (c .before .before .before .before .loop .inv) (omega arith) (ne-eqb _ _ (c .if1 .left))
 
 returns-2 : tie.Need-returns-2 Inv-loop μ-loop
-unfolding noManager
-returns-2 c = kind-is _ _ _ _ (searched-out (c .before .before .before .loop .inv) (omega arith)) refl
-
-returns-3 : tie.Need-returns-3 Inv-loop μ-loop
-returns-3 c = kind-is _ _ _ _ (searched-out (c .before .before .before .loop .inv) (omega arith)) (kind-past (c .before .before .before .before .args .t1) _ (c .no-manager .ensures) (search needs) (c .before .if2 .left))
+returns-2 c = kind-none _ _ _ _ (searched-out (c .before .loop .inv) (omega arith)) (omega (arith, c .before .loop .inv .within))
 
 pub kind-with-spec : {M : Type 1} → statement M
 kind-with-spec =
@@ -47,8 +43,4 @@ kind-with-spec =
     (λ c. search needs)
     (λ c. search needs)
     loop-again
-    (λ c. search needs)
-    (λ c. search needs)
-    returns-2
-    (λ c κs. search needs)
-    returns-3)
+    returns-2)

@@ -1,0 +1,106 @@
+-- Document 01, "A small file": its cases A to L, as one list. Each is asked of the bytes of both files with the definitions that answer the
+-- questions, and with an index room of 140 bytes, more than the index texts of both files take (134 and 126 bytes).
+use mathlib.Core.Path.{_≡_}
+use mathlib.Core.Bool.{Bool, true, _&&_}
+use mathlib.Core.List.{List, [], _∷_, _++_}
+use Prim.Native.Nat.{ℕ, _*_}
+use lib.ListN.{take, drop, set, replicate}
+use lib.Dec.{eqb}
+use Rattle.bytes_at.specs.Number.{uintOf}
+use Rattle.bytes_at.specs.Bytes.{sameBytes}
+use Rattle.bytes_at.specs.Lists.{all}
+use Rattle.standard_rules.specs.Header.{headerAt}
+use Rattle.lookup_rules.specs.declared.Asked.the-variants.{Position}
+use Rattle.lookup_rules.specs.declared.Question.{Question}
+use Rattle.lookup_rules.specs.declared.Question.the-variants.{Check, Place, View}
+use Rattle.lookup_rules.specs.Questions.{noPlan, samePlan, answerOf, roomAfter}
+use Rattle.cases.specs.SmallFile.{tableDat, f0, boolsDat, boolsF0}
+
+-- positions of the columns
+abbrev SCAN : ℕ
+SCAN = 0
+
+abbrev FLAG : ℕ
+FLAG = 1
+
+abbrev TIME : ℕ
+TIME = 2
+
+abbrev roomLength : ℕ
+roomLength = 140
+
+abbrev placeOf : ℕ → ℕ → Question
+placeOf row c = Place row (Position c)
+
+-- "three index buckets (1, 3, 4) of 56": the n bytes of index text in them
+abbrev textIn : List ℕ → ℕ → List ℕ
+textIn f n = take n (take 56 (drop 584 f) ++ take 56 (drop 712 f) ++ take 56 (drop 776 f))
+
+-- the answer is so many bits from a bit on, and the room holds the n bytes of index text, then zeros
+abbrev gives : List ℕ → List ℕ → ℕ → Question → ℕ → ℕ → Bool
+gives t f n q first count =
+    let a = answerOf t f q roomLength in
+    let left = textIn f n ++ replicate 140 0 in
+    eqb (a .refused) 0 && eqb (a .first) first && eqb (a .count) count && sameBytes (roomAfter t f q roomLength) (take 140 left)
+
+-- it is refused with a number and zeros, and the room is all zero
+abbrev refuses : List ℕ → List ℕ → Question → ℕ → Bool
+refuses t f q n =
+    let a = answerOf t f q roomLength in
+    eqb (a .refused) n && samePlan (a .plan) noPlan && eqb (a .first) 0 && eqb (a .count) 0
+    && sameBytes (roomAfter t f q roomLength) (replicate 140 0)
+
+-- table.dat with another offset of TIME: its last byte, 933
+abbrev timeAt : ℕ → List ℕ
+timeAt offset = set tableDat 933 offset
+
+-- table.dat with another row count: byte 24, in the Table header, and byte 816, in the ColumnSet
+abbrev withRows : ℕ → List ℕ
+withRows rows = set (set tableDat 24 rows) 816 rows
+
+-- table.f0 with another second last row: byte 760
+abbrev withLast : ℕ → List ℕ
+withLast last = set f0 760 last
+
+-- table.f0 with another number of index buckets: byte 53
+abbrev withIndexBuckets : ℕ → List ℕ
+withIndexBuckets n = set f0 53 n
+
+-- the refusal of the header of a file that ends after n bytes
+abbrev headerOf : ℕ → ℕ
+headerOf n = headerAt (take n f0) true .refused
+
+unfoldable pub cases : List Bool
+cases =
+    -- A: TIME row 5 is bytes 537 to 544
+    gives tableDat f0 134 (placeOf 5 TIME) (8 * 537) 64
+    -- B: TIME row 2 begins at byte 673, in bucket 2
+    ∷ gives tableDat f0 134 (placeOf 2 TIME) (8 * 673) 64
+    -- C: FLAG row 5 is bit 4,225
+    ∷ gives tableDat f0 134 (placeOf 5 FLAG) 4225 1
+    -- D: SCAN row 6 begins at byte 520
+    ∷ gives tableDat f0 134 (placeOf 6 SCAN) (8 * 520) 32
+    -- E: row 7 gives 9
+    ∷ refuses tableDat f0 (placeOf 7 TIME) 9
+    -- F: view of FLAG gives 14
+    ∷ refuses tableDat f0 (View 5 (Position FLAG)) 14
+    -- G: TIME at 16 gives 11
+    ∷ refuses (timeAt 16) f0 (placeOf 5 TIME) 11
+    -- H: last rows 3, 8 with 9 rows give 11
+    ∷ refuses (withRows 9) (withLast 8) (placeOf 5 TIME) 11
+    -- I: index number 2 for three links gives 10
+    ∷ refuses tableDat (withIndexBuckets 2) (placeOf 5 TIME) 10
+    -- J: TIME at 32 is accepted, at 33 gives 11
+    ∷ gives (timeAt 32) f0 134 (Check 0) 0 0
+    ∷ gives (timeAt 32) f0 134 (placeOf 0 TIME) (8 * 672) 64
+    ∷ refuses (timeAt 33) f0 (placeOf 0 TIME) 11
+    -- K: the StandardStMan header object is 70 bytes, 74 with mark
+    ∷ eqb (uintOf true 4 f0 4) 70
+    ∷ (eqb (headerOf 74) 0 && eqb (headerOf 73) 1)
+    -- L: 8 Bools per row, row 1, offset 0, bucket 0: bits 4,104 to 4,111
+    ∷ gives boolsDat boolsF0 126 (placeOf 1 0) 4104 8
+    ∷ []
+
+-- Every case comes out as document 01 says.
+abbrev pub Right : Type 0
+Right = all (λ (b : Bool). b) cases ≡ true

@@ -1,0 +1,56 @@
+-- What the cases of an answer say is what the answer says. Assumes nothing.
+use mathlib.Core.Path.{_≡_, refl, sym, ap, _∙_}
+use mathlib.Core.List.{List}
+use Prim.Native.Nat.{ℕ}
+use native.Mathlib.Decide.{ℕ-discrete}
+use borrow.Author.Tests.{eq-eqb, ne-eqb}
+use Rattle.standard_rules.specs.Place.{Bits}
+use Rattle.lookup_rules.specs.declared.Request.{Request}
+use Rattle.lookup_rules.specs.declared.Staged.{Staged}
+use Rattle.lookup_rules.specs.declared.Answer.{Answer}
+use Rattle.lookup_rules.specs.Questions.{noPlan, noBits, answered, answerFor}
+use Rattle.lookup_rules.specs.Answers.{verdictRefusal, verdictOf, plannedRefusal, plannedPlan, plannedOf, placedRefusal, placedBits, placedOf, answerBits, Says, EveryAnswer}
+
+-- "A refusal carries its number and zeros."
+record Zeros (a : Answer) : Type 0 where
+  no-plan : (a .refused ≡ 0 → ⊥) → noPlan ≡ a .plan
+  no-bits : (a .refused ≡ 0 → ⊥) → noBits ≡ answerBits a
+
+module _ (a : Answer) (z : Zeros a) where
+  by-verdict : verdictRefusal (verdictOf a) ≡ a .refused
+  unfolding verdictOf
+  by-verdict = elim (ℕ-discrete (a .refused) 0) [ yes e ↦ rw (eq-eqb (a .refused) 0 e) (sym e) | no n ↦ rw (ne-eqb (a .refused) 0 n) ]
+
+  by-planned : plannedRefusal (plannedOf a) ≡ a .refused
+  unfolding plannedOf
+  by-planned = elim (ℕ-discrete (a .refused) 0) [ yes e ↦ rw (eq-eqb (a .refused) 0 e) (sym e) | no n ↦ rw (ne-eqb (a .refused) 0 n) ]
+
+  by-plan : plannedPlan (plannedOf a) ≡ a .plan
+  unfolding plannedOf
+  by-plan = elim (ℕ-discrete (a .refused) 0) [ yes e ↦ rw (eq-eqb (a .refused) 0 e) | no n ↦ rw (ne-eqb (a .refused) 0 n) (z .no-plan n) ]
+
+  by-placed : placedRefusal (placedOf a) ≡ a .refused
+  unfolding placedOf
+  by-placed = elim (ℕ-discrete (a .refused) 0) [ yes e ↦ rw (eq-eqb (a .refused) 0 e) (sym e) | no n ↦ rw (ne-eqb (a .refused) 0 n) ]
+
+  by-bits : placedBits (placedOf a) ≡ answerBits a
+  unfolding placedOf
+  by-bits = elim (ℕ-discrete (a .refused) 0) [ yes e ↦ rw (eq-eqb (a .refused) 0 e) | no n ↦ rw (ne-eqb (a .refused) 0 n) (z .no-bits n) ]
+
+answered-number : (r : Request) (s : Staged) (b : Bits) → (answered r s b .refused ≡ 0 → ⊥) → s .refused ≡ 0 → ⊥
+unfolding answered
+answered-number r s b h e = h (rw (eq-eqb (s .refused) 0 e))
+
+zeros : (r : Request) (s : Staged) (b : Bits) → Zeros (answered r s b)
+unfolding answered
+zeros r s b = record {
+  no-plan = λ h. rw (ne-eqb (s .refused) 0 (answered-number r s b h));
+  no-bits = λ h. rw (ne-eqb (s .refused) 0 (answered-number r s b h));
+}
+
+said : (a : Answer) → Zeros a → Says a
+said a z = record { verdict = by-verdict a z; planned = by-planned a z; plan = by-plan a z; placed = by-placed a z; bits = by-bits a z }
+
+pub every-answer : EveryAnswer
+unfolding answerFor
+every-answer t f q l = said _ (zeros _ _ _)

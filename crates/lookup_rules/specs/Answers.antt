@@ -1,0 +1,70 @@
+-- Document 01, "The questions": each answer in the type of its question, and what each case of that type says: document 01's number, 0
+-- where nothing is refused, and the values; "A refusal carries its number and zeros".
+use Prim.Native.Nat.{ℕ, _/_}
+use mathlib.Core.List.{List}
+use mathlib.Core.Bool.{cond}
+use lib.ListN.{take, drop}
+use lib.Dec.{eqb}
+use mathlib.Core.Path.{_≡_}
+use Rattle.standard_rules.specs.Place.{Bits}
+use Rattle.lookup_rules.specs.declared.Plan.{Plan}
+use Rattle.lookup_rules.specs.declared.Question.{Question}
+use Rattle.lookup_rules.specs.declared.Answer.{Answer}
+use Rattle.lookup_rules.specs.declared.Verdict.{Verdict}
+use Rattle.lookup_rules.specs.declared.Verdict.the-variants.{Accepted, Refused as NotAccepted}
+use Rattle.lookup_rules.specs.declared.Planned.{Planned}
+use Rattle.lookup_rules.specs.declared.Planned.the-variants.{Ready, Refused as NotPlanned}
+use Rattle.lookup_rules.specs.declared.Placed.{Placed}
+use Rattle.lookup_rules.specs.declared.Placed.the-variants.{At, Refused as NotPlaced}
+use Rattle.lookup_rules.specs.Questions.{noPlan, noBits, answerOf}
+
+-- File check
+unfoldable pub verdictOf : Answer → Verdict
+verdictOf a = cond (eqb (a .refused) 0) Accepted (NotAccepted (a .refused))
+
+abbrev pub verdictRefusal : Verdict → ℕ
+verdictRefusal Accepted = 0
+verdictRefusal (NotAccepted n) = n
+
+-- Plan
+unfoldable pub plannedOf : Answer → Planned
+plannedOf a = cond (eqb (a .refused) 0) (Ready (a .plan)) (NotPlanned (a .refused))
+
+abbrev pub plannedRefusal : Planned → ℕ
+plannedRefusal (Ready p) = 0
+plannedRefusal (NotPlanned n) = n
+
+abbrev pub plannedPlan : Planned → Plan
+plannedPlan (Ready p) = p
+plannedPlan (NotPlanned n) = noPlan
+
+-- Place: "first bit and bit count, counted from the file's start"
+unfoldable pub placedOf : Answer → Placed
+placedOf a = cond (eqb (a .refused) 0) (At (a .first) (a .count)) (NotPlaced (a .refused))
+
+abbrev pub placedRefusal : Placed → ℕ
+placedRefusal (At first count) = 0
+placedRefusal (NotPlaced n) = n
+
+abbrev pub placedBits : Placed → Bits
+placedBits (At first count) = record { first = first; count = count }
+placedBits (NotPlaced n) = noBits
+
+-- the bits of an answer
+abbrev pub answerBits : Answer → Bits
+answerBits a = record { first = a .first; count = a .count }
+
+-- View: "the part of the caller's file that holds the cell. A refused view is the empty part"
+unfoldable pub viewOf : List ℕ → Answer → List ℕ
+viewOf f a = take (a .count / 8) (drop (a .first / 8) f)
+
+-- What the cases say is what the answer says, of every question.
+pub record Says (a : Answer) : Type 0 where
+  pub verdict : verdictRefusal (verdictOf a) ≡ a .refused
+  pub planned : plannedRefusal (plannedOf a) ≡ a .refused
+  pub plan : plannedPlan (plannedOf a) ≡ a .plan
+  pub placed : placedRefusal (placedOf a) ≡ a .refused
+  pub bits : placedBits (placedOf a) ≡ answerBits a
+
+abbrev pub EveryAnswer : Type 0
+EveryAnswer = (t f : List ℕ) (q : Question) (l : ℕ) → Says (answerOf t f q l)
