@@ -1,6 +1,6 @@
 -- One bucket of a chain: where it is, what it adds, and each way a chain is wrong there.
 -- Assumes nothing.
-use mathlib.Core.Path.{_≡_, refl, ap}
+use mathlib.Core.Path.{_≡_, refl}
 use mathlib.Core.Bool.{true, false, _&&_}
 use mathlib.Core.List.{List, [], _∷_, _++_}
 use Prim.Native.Nat.{ℕ, zero, suc, _+_, _-_, _*_, _≤_, _<_}
@@ -31,11 +31,6 @@ module _ (f : List ℕ) (size : ℕ) where
   unfolding links
   links-end zero b h = refl
   links-end (suc k) b h = absurd (not-suc-le-zero h)
-
-  pub links-long : (k b : ℕ) → length (links f size k b) ≡ k
-  unfolding links
-  links-long zero b = refl
-  links-long (suc k) b = ap suc (links-long k (nextOf f size b))
 
   pub text-step : (k b : ℕ) → 0 < k → chainText f size k b ≡ take (size - 8) (drop (bucketStart size b + 8) f) ++ chainText f size (k - 1) (nextOf f size b)
   unfolding chainText

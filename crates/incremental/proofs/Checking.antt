@@ -28,7 +28,7 @@ use Rattle.incremental_rules.specs.Index.{indexFits, indexOf}
 use Rattle.incremental_rules.specs.Bucket.{cellsOf}
 use Rattle.incremental_rules.specs.Check.{searchOf, refusalOf, checkedAs}
 use Rattle.incremental_rules.proofs.AnyCell.{cells-same, search-same}
-use Rattle.incremental_rules.proofs.Rows.{number-below}
+use Rattle.incremental_rules.proofs.Numbers.{index-read}
 use Rattle.incremental.specs.Check.{beforeIndex, refusedFile}
 
 -- ---- what the first stages show
@@ -45,7 +45,7 @@ area-passed refused h f b z = record {
 pub buckets-inside : (rows : ℕ) (f : List ℕ) (h : Header) (x : Index) {m : Bool} → Area f (h .size) (h .count) → m ≡ indexFits rows f h x → m ≡ true
     → (i : ℕ) → i < x .count → bucketStart (h .size) (numberIn true 4 f (x .buckets) i) + h .size ≤ length f
 buckets-inside rows f h x a e z i l =
-    omega (arith, step (h .size) (number-below rows f h x (passed (sym e ∙ z)) i l), a .holds)
+    omega (arith, step (h .size) (index-read rows f h x (passed (sym e ∙ z)) .in-range i l), a .holds)
 
 -- ---- the whole refusal, and what is answered. h is the header that was read, and n, x, g, m, cells and found what was found on
 -- the way.

@@ -18,9 +18,9 @@ use Rattle.table_rules.specs.declared.Column.{Column}
 use Rattle.table_rules.specs.ColumnDesc.{noColumn}
 use Rattle.table_rules.specs.declared.Binding.{Binding}
 use Rattle.table_rules.specs.ColumnSet.{noBinding}
-use Rattle.incremental_rules.specs.Place.{partOf, partAt}
+use Rattle.incremental_rules.specs.Place.{partAt}
 use Rattle.incremental_rules.specs.declared.Cells.{Cells}
-use Rattle.incremental_rules.specs.Bucket.{cellBytes, noCells, cellMore, cellInto, cellsIn}
+use Rattle.incremental_rules.specs.Bucket.{cellBytes, noCells, cellMore, cellInto, cellsIn, partOf}
 
 module _ (cs : List Column) (bs : List Binding) (sequence position : ℕ) where
   -- whether a column is bound to the manager

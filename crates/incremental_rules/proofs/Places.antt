@@ -7,10 +7,8 @@ use Prim.Native.Nat.{ℕ, _+_, _-_, _≤_, _<_}
 use native.Mathlib.Decide.{decLt}
 use native.Mathlib.Omega.{arith}
 use lib.ListN.{getD}
-use lib.Dec.{T}
 use borrow.Author.Tests.{ne-eqb}
-use Rattle.bytes_at.specs.Number.{uintOf}
-use Rattle.bytes_at.proofs.Stages.{then-left, then-right, or-passed}
+use Rattle.bytes_at.proofs.Stages.{then-right}
 use Rattle.table_rules.specs.ColumnDesc.{noColumn}
 use Rattle.table_rules.specs.ColumnSet.{noBinding}
 use Rattle.table_rules.specs.declared.Description.{Description}
@@ -22,19 +20,20 @@ use Rattle.standard_rules.proofs.Places.{step}
 use Rattle.incremental_rules.specs.declared.Header.{Header}
 use Rattle.incremental_rules.specs.declared.Index.{Index}
 use Rattle.incremental_rules.specs.Header.{headerAt}
-use Rattle.incremental_rules.specs.Place.{offsetIn, firstRow, bucketNumber, entryOf, isBound, partAt, bitOf, placeOf, Safe, EveryPlace}
+use Rattle.incremental_rules.specs.Place.{offsetIn, entryOf, isBound, partAt, bitOf, placeOf, Safe, EveryPlace}
 use Rattle.incremental_rules.proofs.Accepted.{InBucket, bucket-read}
 use Rattle.incremental_rules.specs.declared.Cells.{Cells}
 use Rattle.incremental_rules.specs.declared.Found.{Found}
-use Rattle.incremental_rules.specs.Index.{indexFits, indexOf}
-use Rattle.incremental_rules.specs.Bucket.{cellBytes, cellsOf}
+use Rattle.incremental_rules.specs.Index.{firstRow, bucketNumber, indexOf, IndexAccepted}
+use Rattle.incremental_rules.specs.Bucket.{cellBytes, cellsOf, indexOffset}
 use Rattle.incremental_rules.specs.Check.{searchOf, refusalOf, firstBit, checkedAs}
 use Rattle.incremental_rules.proofs.AnyCell.{cells-same, search-same}
 use Rattle.incremental_rules.proofs.Columns.{Asked, asked-is}
 use Rattle.incremental_rules.proofs.Search.{FoundIn, bucketIn, search-found}
-use Rattle.incremental_rules.proofs.Rows.{number-below, not-free, some-entry, from-first, entry-known, entry-from, entry-to}
+use Rattle.incremental_rules.proofs.Exactly.{accepted-exactly}
+use Rattle.incremental_rules.proofs.Rows.{some-entry, from-first, entry-known, entry-from, entry-to}
 
--- what no refusal says of the last two stages
+-- what no refusal says of the index and of the buckets
 module _ (d : Description) (sequence : ℕ) (f : List ℕ) (refused : ℕ) (z : refusalOf d sequence f refused ≡ 0) where
   abbrev header : Header
   header = headerAt f (d .big)
@@ -42,9 +41,8 @@ module _ (d : Description) (sequence : ℕ) (f : List ℕ) (refused : ℕ) (z : 
   abbrev index : Index
   index = indexOf f header
 
-  fits-passed : T (indexFits (d .rows) f header index)
-  unfolding refusalOf
-  fits-passed = or-passed _ 10 (then-left _ _ (then-right _ _ (then-right _ _ (then-right _ _ (then-right _ _ (then-right _ _ z))))))
+  numbers : IndexAccepted (d .rows) f header index
+  numbers = accepted-exactly d sequence f refused .0 z .1 .numbers
 
   none-refused : searchOf (d .big) f (header .size) index (cellsOf d sequence 0) 0 .refused ≡ 0
   unfolding refusalOf
@@ -65,7 +63,7 @@ module _ (d : Description) (sequence : ℕ) (f : List ℕ) (refused : ℕ) (z : 
     start = bucketStart (header .size) (bucketNumber f index entry)
 
     abbrev offset : ℕ
-    offset = offsetIn (d .big) f (partAt (d .big) f (start + uintOf (d .big) 4 f start) (isBound d sequence) position) (row - firstRow f index entry)
+    offset = offsetIn (d .big) f (partAt (d .big) f (start + indexOffset (d .big) f start) (isBound d sequence) position) (row - firstRow f index entry)
 
     asked : Asked (d .columns) (d .bindings) sequence position cells
     asked = asked-is (d .columns) (d .bindings) sequence position (d .«column_count») few known bound
@@ -73,17 +71,17 @@ module _ (d : Description) (sequence : ℕ) (f : List ℕ) (refused : ℕ) (z : 
     found-here : FoundIn (d .big) f (header .size) index cells row (index .count) entry found
     found-here =
         search-found (d .big) f (header .size) index cells row
-        (from-first (d .rows) f header index fits-passed row l)
-        (some-entry (d .rows) f header index fits-passed row l)
+        (from-first (d .rows) f header index numbers row l)
+        (some-entry (d .rows) f header index numbers row l)
         (search-same (d .big) f (header .size) index cells (cellsOf d sequence 0) row 0 (cells-same (d .columns) (d .bindings) sequence position 0 (d .«column_count»)) ∙ none-refused)
 
-    in-bucket : InBucket f start (header .size) (d .big) (row - firstRow f index entry) (cells .column) (cells .bytes) (cells .count) (bucketIn (d .big) f (header .size) index cells row entry .value)
+    in-bucket : InBucket f start (header .size) (d .big) (firstRow f index (entry + 1) - firstRow f index entry) (row - firstRow f index entry) (cells .column) (cells .bytes) (cells .count) (bucketIn (d .big) f (header .size) index cells row entry .value)
     in-bucket = bucket-read f start (header .size) (d .big) _ (row - firstRow f index entry) (cells .column) (cells .bytes) (cells .count) (found-here .clean)
 
     offset-is : bucketIn (d .big) f (header .size) index cells row entry .value ≡ offset
     offset-is =
         in-bucket .value (asked .known)
-        ∙ ap (λ (p : ℕ). offsetIn (d .big) f p (row - firstRow f index entry)) (asked .part (d .big) f (start + uintOf (d .big) 4 f start))
+        ∙ ap (λ (p : ℕ). offsetIn (d .big) f p (row - firstRow f index entry)) (asked .part (d .big) f (start + indexOffset (d .big) f start))
 
     -- the check finds the cell where its place is
     pub found-there : firstBit found ≡ placeOf d sequence f position row .first
@@ -94,7 +92,7 @@ module _ (d : Description) (sequence : ℕ) (f : List ℕ) (refused : ℕ) (z : 
     unfolding checkedAs
     checked-there = rw (z) found-there
 
-    offset-fits : offset + cellBytes (getD (d .columns) position noColumn) ≤ uintOf (d .big) 4 f start - 4
+    offset-fits : offset + cellBytes (getD (d .columns) position noColumn) ≤ indexOffset (d .big) f start - 4
     offset-fits = omega (arith, in-bucket .fits (asked .known), offset-is, asked .bytes)
 
     module _ (no-string : getD (d .columns) position noColumn .datatype .number ≡ 11 → ⊥) where
@@ -105,23 +103,23 @@ module _ (d : Description) (sequence : ℕ) (f : List ℕ) (refused : ℕ) (z : 
       unfolding placeOf bitOf
       off-bucket b n i p q r s =
           elim (decLt (bucketNumber f index entry) b) [
-            | yes g ↦ omega (arith, step (header .size) g, offset-fits, bytes-are, in-bucket .high, in-bucket .low)
+            | yes g ↦ omega (arith, step (header .size) g, offset-fits, bytes-are, in-bucket .accepted .high, in-bucket .accepted .low)
             | no g ↦ let g′ : b < bucketNumber f index entry = omega arith in omega (arith, step (header .size) g′)
           ]
 
       safe : Safe (d .big) f header index (placeOf d sequence f position row) row
       unfolding placeOf bitOf
       safe = record {
-        given = entry-known (d .rows) f header index fits-passed row l;
-        not-before = entry-from (d .rows) f header index fits-passed row l;
-        not-after = entry-to (d .rows) f header index fits-passed row l;
-        in-range = number-below (d .rows) f header index fits-passed entry (entry-known (d .rows) f header index fits-passed row l);
+        given = entry-known (d .rows) f header index numbers row l;
+        not-before = entry-from (d .rows) f header index numbers row l;
+        not-after = entry-to (d .rows) f header index numbers row l;
+        in-range = numbers .in-range entry (entry-known (d .rows) f header index numbers row l);
         inside = (omega arith, omega (arith, offset-fits, bytes-are));
-        inside-bucket = (omega arith, omega (arith, in-bucket .high, in-bucket .low));
+        inside-bucket = (omega arith, omega (arith, in-bucket .accepted .high, in-bucket .accepted .low));
         off-header = λ i p q r s. omega arith;
-        off-free = λ i k. off-bucket _ (not-free (d .rows) f header index fits-passed entry i (entry-known (d .rows) f header index fits-passed row l) k);
+        off-free = λ i k. off-bucket _ (numbers .not-free entry i (entry-known (d .rows) f header index numbers row l) k);
         off-index = λ i p q r s.
-            omega (arith, step (header .size) (number-below (d .rows) f header index fits-passed entry (entry-known (d .rows) f header index fits-passed row l)), offset-fits, bytes-are, in-bucket .high, in-bucket .low);
+            omega (arith, step (header .size) (numbers .in-range entry (entry-known (d .rows) f header index numbers row l)), offset-fits, bytes-are, in-bucket .accepted .high, in-bucket .accepted .low);
       }
 
 pub every-place : EveryPlace

@@ -14,12 +14,13 @@ use Rattle.bytes_at.proofs.Stages.{then-left, then-right}
 use Rattle.aipsio_rules.specs.declared.Value.{Value}
 use Rattle.standard_rules.specs.Header.{bucketStart}
 use Rattle.incremental_rules.specs.declared.Index.{Index}
+use Rattle.incremental_rules.specs.Index.{firstRow, bucketNumber}
 use Rattle.incremental_rules.specs.Bucket.{bucketAt}
 use Rattle.bytes_at.specs.Lists.{lastBelow}
 use Rattle.incremental_rules.specs.declared.Cells.{Cells}
 use Rattle.incremental_rules.specs.declared.Found.{Found}
 use Rattle.incremental_rules.specs.Check.{foundAs, bucketInto, nothing, searchOf}
-use Rattle.incremental_rules.specs.Place.{firstRow, bucketNumber, entryOf}
+use Rattle.incremental_rules.specs.Place.{entryOf}
 use Rattle.incremental_rules.proofs.AnyCell.{turn-refused}
 
 found-clean : (refused start offset : ℕ) → refused ≡ 0 → foundAs refused start offset ≡ record { start = start; offset = offset; refused = 0 }

@@ -36,7 +36,7 @@ leb-minus v b d h =
     ]
 
 -- an unrefused cursor, field by field
-same : (c : Cursor) → Clean c → record { at = c .at; end = c .end; big = c .big; refused = 0 } ≡ c
+pub same : (c : Cursor) → Clean c → record { at = c .at; end = c .end; big = c .big; refused = 0 } ≡ c
 same c h = ap (λ (x : ℕ). record { at = c .at; end = c .end; big = c .big; refused = x }) (sym h)
 
 -- ---- one number

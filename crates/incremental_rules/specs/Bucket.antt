@@ -1,6 +1,7 @@
 -- Document 01, "IncrementalStMan", and Note 260, 3.4.3, Data Bucket: one bucket. Each step that judges a number also keeps the one
 -- that is asked for, so that the check and the search for a cell are one.
-use Prim.Native.Nat.{ℕ, _+_, _-_}
+use Prim.Native.Nat.{ℕ, zero, suc, _+_, _-_, _*_, _≤_, _<_}
+use mathlib.Core.Path.{_≡_}
 use mathlib.Core.Bool.{cond, _&&_, Bool, false}
 use lib.Dec.{eqb, leb, ltb}
 use lib.ListN.{replicate, set, getD}
@@ -11,6 +12,7 @@ use Rattle.incremental_rules.specs.declared.Cells.{Cells}
 use Rattle.table_rules.specs.ColumnDesc.{noColumn}
 use Rattle.table_rules.specs.declared.Binding.{Binding}
 use Rattle.table_rules.specs.ColumnSet.{noBinding}
+use Rattle.bytes_at.specs.Number.{uintOf}
 use Rattle.bytes_at.specs.Steps.{after, _>>=_}
 use Rattle.table_rules.specs.declared.Description.{Description}
 use Rattle.aipsio_rules.specs.declared.Cursor.{Cursor}
@@ -116,3 +118,55 @@ unfoldable pub bucketAt : List ℕ → ℕ → ℕ → Bool → ℕ → ℕ → 
 bucketAt f at size big rows row column bytes n = do
   limit ← dataAt f (record { at = at; end = at + size; big = big; refused = 0 }) size
   columnPartsAt f (limit .next) (limit .value) rows row column bytes n
+
+-- "index offset x in the table's endianness" of the bucket at a place
+abbrev pub indexOffset : Bool → List ℕ → ℕ → ℕ
+indexOffset big f at = uintOf big 4 f at
+
+-- Note 260, Index Part: a column's part holds the number of its values, as many starts, as many offsets.
+abbrev pub valuesIn : Bool → List ℕ → ℕ → ℕ
+valuesIn big f part = uintOf big 4 f part
+
+-- start i of a part
+abbrev pub startIn : Bool → List ℕ → ℕ → ℕ → ℕ
+startIn big f part i = uintOf big 4 f (part + 4 + i * 4)
+
+-- offset i of a part, "counted from byte 4"
+abbrev pub offsetOfValue : Bool → List ℕ → ℕ → ℕ → ℕ
+offsetOfValue big f part i = uintOf big 4 f (part + 4 + valuesIn big f part * 4 + i * 4)
+
+-- where the part ends
+abbrev pub pastPart : Bool → List ℕ → ℕ → ℕ
+pastPart big f part = part + 4 + valuesIn big f part * 8
+
+-- where the part of column k begins, the first at a place
+unfoldable pub partOf : Bool → List ℕ → ℕ → ℕ → ℕ
+partOf big f at zero = at
+partOf big f at (suc k) = let before = partOf big f at k in pastPart big f before
+
+-- The sentence "Per column" as facts, one for each of its clauses, of the part at a place in a bucket that ends at `end`: `limit` is
+-- x - 4, and `bytes` are "the cell's whole bytes", 0 for a String, of which "the offset alone is at most x - 4".
+pub record PartAccepted (big : Bool) (f : List ℕ) (part end limit rows bytes : ℕ) : Type 0 where
+  -- "at least one value"
+  pub some : 0 < valuesIn big f part
+  -- "starts from 0"
+  pub from-zero : startIn big f part 0 ≡ 0
+  -- "rising strictly"
+  pub rise : (i : ℕ) → i + 1 < valuesIn big f part → startIn big f part i < startIn big f part (i + 1)
+  -- "below the bucket's rows"
+  pub below : (i : ℕ) → i < valuesIn big f part → startIn big f part i < rows
+  -- "each offset, counted from byte 4, plus the cell's whole bytes is at most x - 4"
+  pub fits : (i : ℕ) → i < valuesIn big f part → offsetOfValue big f part i + bytes ≤ limit
+  -- "Bucket faults give 1 where the bucket ends": all these numbers lie in it
+  pub inside : pastPart big f part ≤ end
+
+-- The sentences on a bucket as facts, of the bucket of `size` bytes at a place, with so many rows and n columns.
+pub record BucketAccepted (f : List ℕ) (at size : ℕ) (big : Bool) (rows : ℕ) (bytes : List ℕ) (n : ℕ) : Type 0 where
+  -- "index offset x in the table's endianness, 4 to bucket size"
+  pub low : 4 ≤ indexOffset big f at
+  pub high : indexOffset big f at ≤ size
+  -- "high byte 0"
+  pub high-byte : indexOffset big f at < 16777216
+  -- "Per column", one part after another from x on
+  pub columns : (k : ℕ) → k < n
+      → PartAccepted big f (partOf big f (at + indexOffset big f at) k) (at + size) (indexOffset big f at - 4) rows (getD bytes k 0)

@@ -1,7 +1,9 @@
 -- Document 01, "IncrementalStMan": when a file is accepted.
-use Prim.Native.Nat.{ℕ, _+_, _-_, _*_}
+use mathlib.Core.Path.{_≡_}
+use mathlib.Core.Logic.{_↔_}
+use Prim.Native.Nat.{ℕ, _+_, _-_, _*_, _≤_, _<_}
 use mathlib.Core.Bool.{cond, Bool, true}
-use lib.Dec.{eqb, leb}
+use lib.Dec.{T, eqb, leb}
 use mathlib.Core.List.{List}
 use lib.ListN.{length}
 use Rattle.incremental_rules.specs.declared.Found.{Found}
@@ -10,13 +12,14 @@ use Rattle.bytes_at.specs.Steps.{_>>=_, after}
 use Rattle.standard_rules.specs.Header.{bucketStart}
 use Rattle.bytes_at.specs.Number.{numberIn}
 use Rattle.incremental_rules.specs.declared.Index.{Index}
-use Rattle.incremental_rules.specs.Bucket.{bucketAt, cellsOf}
+use Rattle.incremental_rules.specs.Bucket.{bucketAt, cellsOf, BucketAccepted}
 use Rattle.incremental_rules.specs.declared.Cells.{Cells}
 use Rattle.table_rules.specs.declared.Description.{Description}
 use Rattle.standard_rules.specs.Index.{freeOk}
 use Rattle.standard_rules.specs.Check.{longEnough}
+use Rattle.incremental_rules.specs.declared.Header.{Header}
 use Rattle.incremental_rules.specs.Header.{headerAt}
-use Rattle.incremental_rules.specs.Index.{indexFits, indexOf}
+use Rattle.incremental_rules.specs.Index.{firstRow, bucketNumber, indexFits, indexOf, IndexAccepted}
 use Rattle.incremental_rules.specs.declared.Checked.{Checked}
 
 -- zeros and the number where a bucket is refused
@@ -61,6 +64,32 @@ refusalOf d sequence f refused =
     ▷ orNo (freeOk f (h .size) (h .count) (h .«free_count») (h .«first_free»)) 10
     ▷ orNo (indexFits (d .rows) f h x) 11
     ▷ searchOf (d .big) f (h .size) x (cellsOf d sequence 0) 0 .refused
+
+-- The chapter as facts, in the order of that sentence, of a file with header h and index x.
+pub record FileAccepted (d : Description) (sequence : ℕ) (f : List ℕ) (h : Header) (x : Index) : Type 0 where
+  -- "header"
+  pub header : h .refused ≡ 0
+  -- "length": 1 where "the file is shorter than 512 + buckets x bucket size"
+  pub long : 512 + h .count * h .size ≤ length f
+  -- "index object"
+  pub index : x .refused ≡ 0
+  -- "free chain"
+  pub free : T (freeOk f (h .size) (h .count) (h .«free_count») (h .«first_free»))
+  -- "bucket numbers and first rows"
+  pub numbers : IndexAccepted (d .rows) f h x
+  -- "buckets in index order": each has the rows from its first row to the next one
+  pub buckets : (i : ℕ) → i < x .count
+      → BucketAccepted f (bucketStart (h .size) (bucketNumber f x i)) (h .size) (d .big) (firstRow f x (i + 1) - firstRow f x i)
+      (cellsOf d sequence 0 .bytes) (cellsOf d sequence 0 .count)
+
+abbrev pub Accepted : Description → ℕ → List ℕ → Type 0
+Accepted d sequence f = let h = headerAt f (d .big) in FileAccepted d sequence f h (indexOf f h)
+
+-- Of every table and every file: nothing refuses exactly when nothing was refused before and the file is accepted.
+abbrev pub AcceptedExactly : Type 0
+AcceptedExactly =
+    (d : Description) (sequence : ℕ) (f : List ℕ) (refused : ℕ)
+    → (refusalOf d sequence f refused ≡ 0) ↔ ((refused ≡ 0) × Accepted d sequence f)
 
 -- "each offset, counted from byte 4"
 abbrev pub firstBit : Found → ℕ

@@ -1,9 +1,10 @@
 -- Document 01, "IncrementalStMan", and Note 260, 3.4.3, Bucket Index: the ISMIndex object, and the rule for its numbers.
-use Prim.Native.Nat.{ℕ, _+_}
+use mathlib.Core.Path.{_≡_}
+use Prim.Native.Nat.{ℕ, _+_, _<_}
 use mathlib.Core.Bool.{cond, Bool, _&&_, false, true}
 use lib.Dec.{eqb, ltb}
 use mathlib.Core.List.{List, [], _∷_, _++_}
-use lib.ListN.{length}
+use lib.ListN.{length, getD}
 use Rattle.aipsio_rules.specs.declared.Cursor.{Cursor}
 use Rattle.incremental_rules.specs.declared.Index.{Index}
 use Rattle.bytes_at.specs.Bytes.{bytes}
@@ -13,7 +14,7 @@ use Rattle.aipsio_rules.specs.Object.{opened, closed, blockAt}
 use Rattle.standard_rules.specs.Header.{bucketStart}
 use Rattle.incremental_rules.specs.declared.Header.{Header}
 use Rattle.standard_rules.specs.Index.{links}
-use Rattle.bytes_at.specs.Number.{numbersAt}
+use Rattle.bytes_at.specs.Number.{numberIn, numbersAt}
 use Rattle.bytes_at.specs.Lists.{allApart}
 
 -- "A refusal carries its number and zeros."
@@ -44,6 +45,17 @@ indexAt s at = indexIn s true 4 at
 abbrev pub indexOf : List ℕ → Header → Index
 indexOf f h = indexAt f (bucketStart (h .size) (h .count))
 
+-- the first row of entry i of the index, and its bucket number
+abbrev pub firstRow : List ℕ → Index → ℕ → ℕ
+firstRow f x i = numberIn true 4 f (x .firsts) i
+
+abbrev pub bucketNumber : List ℕ → Index → ℕ → ℕ
+bucketNumber f x i = numberIn true 4 f (x .buckets) i
+
+-- the free list
+abbrev pub freeBuckets : List ℕ → Header → List ℕ
+freeBuckets f h = links f (h .size) (h .«free_count») (h .«first_free»)
+
 -- "first rows start at 0, rise strictly and end at the row count": those that follow one
 unfoldable pub risesTo : ℕ → ℕ → List ℕ → Bool
 risesTo rows last [] = eqb last rows
@@ -58,5 +70,20 @@ firstsFit rows (x ∷ xs) = let rest = risesTo rows x xs in eqb x 0 && rest
 -- already, since their chain ends.
 unfoldable pub indexFits : ℕ → List ℕ → Header → Index → Bool
 indexFits rows f h x =
-    allApart (h .count) (numbersAt true 4 f (x .buckets) (x .count) ++ links f (h .size) (h .«free_count») (h .«first_free»))
+    allApart (h .count) (numbersAt true 4 f (x .buckets) (x .count) ++ freeBuckets f h)
     && firstsFit rows (numbersAt true 4 f (x .firsts) (x .count + 1))
+
+-- The sentence on the index's numbers as facts, one for each of its clauses.
+pub record IndexAccepted (rows : ℕ) (f : List ℕ) (h : Header) (x : Index) : Type 0 where
+  -- "bucket numbers are in range"
+  pub in-range : (i : ℕ) → i < x .count → bucketNumber f x i < h .count
+  -- "all different"
+  pub different : (i j : ℕ) → i < j → j < x .count → bucketNumber f x i ≡ bucketNumber f x j → ⊥
+  -- "none free"
+  pub not-free : (i j : ℕ) → i < x .count → j < length (freeBuckets f h) → bucketNumber f x i ≡ getD (freeBuckets f h) j 0 → ⊥
+  -- "first rows start at 0"
+  pub from-zero : firstRow f x 0 ≡ 0
+  -- "rise strictly"
+  pub rise : (i : ℕ) → i < x .count → firstRow f x i < firstRow f x (i + 1)
+  -- "and end at the row count"
+  pub to-rows : firstRow f x (x .count) ≡ rows

@@ -2,11 +2,10 @@
 -- bucket's index part; and what holds of it in an accepted file.
 use Prim.Native.Nat.{ℕ, _+_, _*_, zero, suc, _-_, _≤_, _<_}
 use mathlib.Core.List.{List}
-use mathlib.Core.Bool.{Bool, true, cond}
+use mathlib.Core.Bool.{Bool, cond}
 use lib.Dec.{leb, eqb}
 use lib.ListN.{getD, length}
 use mathlib.Core.Path.{_≡_}
-use Rattle.bytes_at.specs.Number.{uintOf, numberIn}
 use Rattle.bytes_at.specs.Lists.{lastBelow}
 use Rattle.incremental_rules.specs.declared.Index.{Index}
 use Rattle.table_rules.specs.ColumnSet.{noBinding}
@@ -17,38 +16,18 @@ use Rattle.table_rules.specs.ColumnDesc.{noColumn}
 use Rattle.standard_rules.specs.Map.{ceil8}
 use Rattle.standard_rules.specs.Place.{bucketBits, Bits, headerBits}
 use Rattle.incremental_rules.specs.Header.{headerAt}
-use Rattle.incremental_rules.specs.Index.{indexOf}
-use Rattle.standard_rules.specs.Index.{links}
+use Rattle.incremental_rules.specs.Index.{firstRow, bucketNumber, freeBuckets, indexOf}
 use Rattle.standard_rules.specs.Demand.{Apart, Inside}
+use Rattle.incremental_rules.specs.Bucket.{indexOffset, valuesIn, startIn, offsetOfValue, pastPart}
 use Rattle.incremental_rules.specs.Check.{refusalOf}
-
--- where a column's part of the index ends: the number of its values, as many starts, as many offsets
-abbrev pub pastPart : Bool → List ℕ → ℕ → ℕ
-pastPart big f part = part + 4 + uintOf big 4 f part * 8
-
--- where the part of column k begins, the first at a place
-unfoldable pub partOf : Bool → List ℕ → ℕ → ℕ → ℕ
-partOf big f at zero = at
-partOf big f at (suc k) = let before = partOf big f at k in pastPart big f before
-
--- start i of a part
-abbrev pub startIn : Bool → List ℕ → ℕ → ℕ → ℕ
-startIn big f part i = uintOf big 4 f (part + 4 + i * 4)
 
 -- "The last start not above the local row"
 abbrev pub valueIn : Bool → List ℕ → ℕ → ℕ → ℕ
-valueIn big f part row = lastBelow (λ (i : ℕ). leb (startIn big f part i) row) (uintOf big 4 f part)
+valueIn big f part row = lastBelow (λ (i : ℕ). leb (startIn big f part i) row) (valuesIn big f part)
 
--- the offset of that value, "counted from byte 4"
+-- the offset of that value
 abbrev pub offsetIn : Bool → List ℕ → ℕ → ℕ → ℕ
-offsetIn big f part row = uintOf big 4 f (part + 4 + uintOf big 4 f part * 4 + valueIn big f part row * 4)
-
--- the first row of entry i of the index, and its bucket number
-abbrev pub firstRow : List ℕ → Index → ℕ → ℕ
-firstRow f x i = numberIn true 4 f (x .firsts) i
-
-abbrev pub bucketNumber : List ℕ → Index → ℕ → ℕ
-bucketNumber f x i = numberIn true 4 f (x .buckets) i
+offsetIn big f part row = offsetOfValue big f part (valueIn big f part row)
 
 -- the entry of a row: the last whose first row is not above it
 abbrev pub entryOf : List ℕ → Index → ℕ → ℕ
@@ -69,7 +48,7 @@ unfoldable pub bitOf : Description → ℕ → List ℕ → Header → Index →
 bitOf d sequence f h x position row =
     let e = entryOf f x row in
     let start = bucketStart (h .size) (bucketNumber f x e) in
-    let part = partAt (d .big) f (start + uintOf (d .big) 4 f start) (isBound d sequence) position in
+    let part = partAt (d .big) f (start + indexOffset (d .big) f start) (isBound d sequence) position in
     8 * (start + 4 + offsetIn (d .big) f part (row - firstRow f x e))
 
 -- "Cells take ceiling(bits / 8) x 8 bits"
@@ -85,7 +64,7 @@ placeOf d sequence f position row =
 -- the bits of the data part of bucket b: from byte 4 to its index offset
 abbrev pub dataBits : Bool → List ℕ → Header → ℕ → Bits
 dataBits big f h b =
-    record { first = 8 * (bucketStart (h .size) b + 4); count = 8 * (uintOf big 4 f (bucketStart (h .size) b) - 4) }
+    record { first = 8 * (bucketStart (h .size) b + 4); count = 8 * (indexOffset big f (bucketStart (h .size) b) - 4) }
 
 -- the bits of the ISMIndex, and of all that stands after it
 abbrev pub indexBits : List ℕ → Header → Bits
@@ -103,8 +82,7 @@ pub record Safe (big : Bool) (f : List ℕ) (h : Header) (x : Index) (p : Bits) 
   pub inside : Inside p (dataBits big f h (bucketNumber f x (entryOf f x row)))
   pub inside-bucket : Inside (dataBits big f h (bucketNumber f x (entryOf f x row))) (bucketBits (h .size) (bucketNumber f x (entryOf f x row)))
   pub off-header : Apart p headerBits
-  pub off-free : (i : ℕ) → i < length (links f (h .size) (h .«free_count») (h .«first_free»))
-      → Apart p (bucketBits (h .size) (getD (links f (h .size) (h .«free_count») (h .«first_free»)) i 0))
+  pub off-free : (i : ℕ) → i < length (freeBuckets f h) → Apart p (bucketBits (h .size) (getD (freeBuckets f h) i 0))
   pub off-index : Apart p (indexBits f h)
 
 -- The column at a position is one of the file's, and its cells have a place: it is no String.

@@ -7,7 +7,7 @@ use Prim.Native.Nat.{ℕ, zero, suc, _-_, _≤_, _<_, zero-le, suc-le-suc}
 use native.Mathlib.Nat.{sub-zero, suc-sub-suc, not-suc-le-zero, le-of-suc-le-suc}
 use native.Mathlib.Decide.{ℕ-discrete}
 use native.Mathlib.Omega.{arith}
-use lib.ListN.{getD}
+use lib.ListN.{length, getD}
 use lib.Dec.{T, eqb, ltb, ltb→lt, eqb→eq}
 use store.Enc.{and-l, and-r}
 use borrow.Author.Tests.{eq-eqb, ne-eqb}
@@ -50,6 +50,11 @@ at-most (suc n) (suc k) g h d =
     (λ i j l m. instead-apart n (g k) (g i) (g j) (d i j l (omega arith)) (d i k (omega arith) (omega arith)) (d j k m (omega arith))))
 
 -- ---- the free list
+pub links-long : (f : List ℕ) (size k b : ℕ) → length (links f size k b) ≡ k
+unfolding links
+links-long f size zero b = refl
+links-long f size (suc k) b = ap suc (links-long f size k (nextOf f size b))
+
 module _ (f : List ℕ) (size nb : ℕ) (few : nb ≤ 4096) where
   -- a bucket has one number of buckets from it to the end
   ends-once : (j k b : ℕ) → T (freeOk f size nb j b) → T (freeOk f size nb k b) → j ≡ k
@@ -71,6 +76,10 @@ module _ (f : List ℕ) (size nb : ℕ) (few : nb ≤ 4096) where
   in-range zero b l t = absurd (not-suc-le-zero l)
   in-range (suc k) b l t = ltb→lt b nb (and-l (ltb b nb) _ t)
 
+  -- its buckets are the file's
+  pub free-below : (k b : ℕ) → T (freeOk f size nb k b) → (i : ℕ) → i < k → getD (links f size k b) i 0 < nb
+  free-below k b t i l = in-range (k - i) (getD (links f size k b) i 0) (omega arith) (from-link i k b l t)
+
   -- it does not return to an earlier bucket
   pub free-once : (k b : ℕ) → T (freeOk f size nb k b) → (i j : ℕ) → i < j → j < k → getD (links f size k b) i 0 ≡ getD (links f size k b) j 0 → ⊥
   free-once k b t i j l m e =
@@ -79,9 +88,7 @@ module _ (f : List ℕ) (size nb : ℕ) (few : nb ≤ 4096) where
   -- and so has no more buckets than the file
   pub free-few : (k b : ℕ) → T (freeOk f size nb k b) → k ≤ nb
   free-few k b t =
-      at-most nb k (λ (i : ℕ). getD (links f size k b) i 0)
-      (λ i l. in-range (k - i) (getD (links f size k b) i 0) (omega arith) (from-link i k b l t))
-      (free-once k b t)
+      at-most nb k (λ (i : ℕ). getD (links f size k b) i 0) (free-below k b t) (free-once k b t)
 
   -- a chain of index buckets is one too
   chain-free : (k b : ℕ) → T (chainOk f size nb k b) → T (freeOk f size nb k b)

@@ -1,0 +1,107 @@
+-- A file is not refused exactly when it is accepted: each stage passes exactly when its facts hold.
+-- Assumes nothing.
+use mathlib.Core.Path.{_≡_, refl, sym, _∙_}
+use mathlib.Core.List.{List}
+use mathlib.Core.Bool.{Bool}
+use Prim.Native.Nat.{ℕ, zero, suc, _≤_, _<_, zero-le}
+use native.Mathlib.Decide.{ℕ-discrete}
+use native.Mathlib.Nat.{not-suc-le-zero}
+use native.Mathlib.Omega.{arith}
+use lib.ListN.{length}
+use lib.Dec.{leb→le, le→leb}
+use borrow.Author.Tests.{eq-eqb, ne-eqb}
+use Rattle.bytes_at.specs.Steps.{after, _>>=_}
+use Rattle.bytes_at.proofs.Tests.{is-true}
+use Rattle.bytes_at.proofs.Stages.{then-left, then-right, or-passed, goes, yes-is}
+use Rattle.aipsio_rules.specs.declared.Cursor.{Cursor}
+use Rattle.aipsio_rules.proofs.Bounds.{ranged-le}
+use Rattle.table_rules.specs.declared.Description.{Description}
+use Rattle.standard_rules.specs.Check.{longEnough}
+use Rattle.incremental_rules.specs.declared.HeaderFields.{HeaderFields}
+use Rattle.incremental_rules.specs.declared.Header.{Header}
+use Rattle.incremental_rules.specs.declared.Index.{Index}
+use Rattle.incremental_rules.specs.declared.Cells.{Cells}
+use Rattle.incremental_rules.specs.Header.{fieldsAt, headed, headerIn, headerAt}
+use Rattle.incremental_rules.specs.Index.{indexOf}
+use Rattle.incremental_rules.specs.Bucket.{cellsOf}
+use Rattle.incremental_rules.specs.Check.{bucketInto, nothing, searchOf, refusalOf, Accepted, AcceptedExactly}
+use Rattle.incremental_rules.proofs.Accepted.{bucket-read, bucket-on}
+use Rattle.incremental_rules.proofs.AnyCell.{turn-refused}
+use Rattle.incremental_rules.proofs.Search.{bucketIn}
+use Rattle.incremental_rules.proofs.Numbers.{index-read, index-passes}
+
+-- ---- no header states more than 4,096 buckets
+fields-few : (s : List ℕ) (c : Cursor) (big : Bool) → fieldsAt s c big .count ≤ 4096
+unfolding fieldsAt _>>=_
+fields-few s c big = ranged-le s _ 4 0 4096 3
+
+headed-few : (c : Cursor) (h : HeaderFields) → h .count ≤ 4096 → headed c h .count ≤ 4096
+unfolding headed
+headed-few c h l = elim (ℕ-discrete (c .refused) 0) [ yes e ↦ rw (eq-eqb (c .refused) 0 e) l | no e ↦ rw (ne-eqb (c .refused) 0 e) zero-le ]
+
+header-few : (f : List ℕ) (big : Bool) → headerAt f big .count ≤ 4096
+unfolding headerIn _>>=_
+header-few f big = headed-few _ _ (fields-few f _ big)
+
+-- ---- the buckets are not refused exactly when none of them is
+module _ (big : Bool) (f : List ℕ) (size : ℕ) (x : Index) (cells : Cells) (row : ℕ) where
+  each-clean : (n : ℕ) → after (bucketInto big f size x cells row) nothing n .refused ≡ 0
+      → (i : ℕ) → i < n → bucketIn big f size x cells row i .next .refused ≡ 0
+  unfolding after
+  each-clean zero e i l = absurd (not-suc-le-zero l)
+  each-clean (suc n) e i l =
+      let t = sym (turn-refused big f size x cells row _ n) ∙ e in
+      elim (ℕ-discrete i n) [ yes q ↦ rw q (then-right _ _ t) | no q ↦ each-clean n (then-left _ _ t) i (omega arith) ]
+
+  all-clean : (n : ℕ) → ((i : ℕ) → i < n → bucketIn big f size x cells row i .next .refused ≡ 0)
+      → after (bucketInto big f size x cells row) nothing n .refused ≡ 0
+  unfolding after
+  all-clean zero h = refl
+  all-clean (suc n) h =
+      turn-refused big f size x cells row _ n ∙ goes _ _ (all-clean n (λ i l. h i (omega arith))) ∙ h n (omega arith)
+
+-- ---- the stages
+module _ (d : Description) (sequence : ℕ) (f : List ℕ) (refused : ℕ) where
+  abbrev header : Header
+  header = headerAt f (d .big)
+
+  abbrev index : Index
+  index = indexOf f header
+
+  abbrev cells : Cells
+  cells = cellsOf d sequence 0
+
+  accepted : refusalOf d sequence f refused ≡ 0 → (refused ≡ 0) × Accepted d sequence f
+  unfolding refusalOf searchOf
+  accepted z =
+      let a = then-right _ _ z in
+      let b = then-right _ _ a in
+      let c = then-right _ _ b in
+      let e = then-right _ _ c in
+      let g = then-right _ _ e in
+      let clean = each-clean (d .big) f (header .size) index cells 0 (index .count) (then-right _ _ g) in (
+        then-left _ _ z,
+        record {
+          header = then-left _ _ a;
+          long = leb→le _ _ (or-passed (longEnough (length f) (header .size) (header .count)) 0 (then-left _ _ b));
+          index = then-left _ _ c;
+          free = or-passed _ 9 (then-left _ _ e);
+          numbers = index-read (d .rows) f header index (or-passed _ 10 (then-left _ _ g));
+          buckets = λ i l. bucket-read f _ _ _ _ _ _ _ _ (clean i l) .accepted;
+        },
+      )
+
+  not-refused : (refused ≡ 0) × Accepted d sequence f → refusalOf d sequence f refused ≡ 0
+  unfolding refusalOf searchOf
+  not-refused v =
+      let a = v .1 in
+      goes _ _ (v .0)
+      ∙ goes _ _ (a .header)
+      ∙ goes _ _ (yes-is _ 1 (is-true _ (le→leb _ _ (a .long))))
+      ∙ goes _ _ (a .index)
+      ∙ goes _ _ (yes-is _ 10 (is-true _ (a .free)))
+      ∙ goes _ _ (yes-is _ 11 (is-true _ (index-passes (d .rows) f header index (a .numbers) (header-few f (d .big)) (a .free))))
+      ∙ all-clean (d .big) f (header .size) index cells 0 (index .count) (λ i l. bucket-on f _ _ _ _ _ _ _ _ (a .buckets i l))
+
+pub accepted-exactly : AcceptedExactly
+accepted-exactly d sequence f refused = (accepted d sequence f refused, not-refused d sequence f refused)
