@@ -1,13 +1,12 @@
 -- What a test that passes over a list says of its elements, and the other way round.
 -- Assumes nothing.
-use mathlib.Core.Path.{_≡_, refl, sym, subst}
+use mathlib.Core.Path.{_≡_, refl, subst}
 use mathlib.Core.Bool.{Bool, true, false, _&&_, _||_}
 use mathlib.Core.List.{List, [], _∷_}
 use Prim.Native.Nat.{ℕ, zero, suc, _+_, _<_}
-use native.Mathlib.Decide.{ℕ-discrete, decLt}
 use native.Mathlib.Omega.{arith}
 use lib.ListN.{length, getD}
-use lib.Dec.{T, eqb, eqb-refl, T-not}
+use lib.Dec.{T, eqb, eqb-refl, eqb→eq, T-not, not-T}
 use store.Enc.{and-l, and-r}
 use Rattle.bytes_at.specs.Lists.{_⇒_, all, allFrom, pairs, unlike}
 
@@ -16,9 +15,18 @@ pub or-cases : {X : Type 0} (a b : Bool) → T (a || b) → (T a → X) → (T b
 or-cases true b t f g = f t
 or-cases false b t f g = g t
 
+pub or-yes : (a b : Bool) → ((T a → ⊥) → (T b → ⊥) → ⊥) → T (a || b)
+or-yes true b h = tt
+or-yes false true h = tt
+or-yes false false h = h (λ x. x) (λ x. x)
+
 pub then : (a b : Bool) → T (a ⇒ b) → T a → T b
 then true b t h = t
 then false b t h = absurd h
+
+pub then-yes : (a b : Bool) → (T a → T b) → T (a ⇒ b)
+then-yes true b h = h tt
+then-yes false b h = tt
 
 pub both : (a b : Bool) → T a → T b → T (a && b)
 both true b h k = k
@@ -72,6 +80,14 @@ unfolding all
 all-yes f [] d h = tt
 all-yes f (x ∷ xs) d h = both (f x) (all f xs) (h 0 (omega arith)) (all-yes f xs d (λ i k. h (suc i) (omega arith)))
 
+pub all-from-yes : {A : Type 0} (f : ℕ → A → Bool) (k : ℕ) (l : List A) (d : A) → ((i : ℕ) → i < length l → T (f (i + k) (getD l i d))) → T (allFrom f k l)
+unfolding allFrom
+all-from-yes f k [] d h = tt
+all-from-yes f k (x ∷ xs) d h =
+    let e : 0 + k ≡ k = omega arith in
+    both (f k x) (allFrom f (suc k) xs) (rw e at (h 0 (omega arith)))
+    (all-from-yes f (suc k) xs d (λ i g. let q : i + suc k ≡ suc i + k = omega arith in rw q (h (suc i) (omega arith))))
+
 pub all-no : {A : Type 0} (f : A → Bool) (l : List A) (d : A) (i : ℕ) → i < length l → (T (f (getD l i d)) → ⊥) → all f l ≡ false
 all-no f l d i h n = is-false (all f l) (λ t. n (all-at f l d t i h))
 
@@ -109,16 +125,9 @@ pairs-same f g (x ∷ l) (y ∷ m) d e q h =
       pairs-same f g l m d e (omega arith) (λ i j k n. h (suc i) (suc j) (omega arith) (omega arith)),
     )
 
--- ---- a list whose elements are all different holds a number at one place only
+-- ---- "different" is what it says
+pub unlike-yes : (a b : ℕ) → (a ≡ b → ⊥) → T (unlike a b)
+unlike-yes a b h = not-T (eqb a b) (λ t. h (eqb→eq a b t))
+
 pub unlike-not : (a b : ℕ) → T (unlike a b) → a ≡ b → ⊥
 unlike-not a b t q = T-not (eqb a b) t (subst (λ (k : ℕ). T (eqb a k)) q (eqb-refl a))
-
-pub one-place : (l : List ℕ) → T (pairs unlike l) → (i j : ℕ) → i < length l → j < length l → getD l i 0 ≡ getD l j 0 → i ≡ j
-one-place l t i j h k q =
-    elim (ℕ-discrete i j) [
-      | yes e ↦ e
-      | no n ↦ elim (decLt i j) [
-        | yes g ↦ absurd (unlike-not _ _ (pairs-at unlike l 0 t i j g k) q)
-        | no g ↦ absurd (unlike-not _ _ (pairs-at unlike l 0 t j i (omega arith) h) (sym q))
-      ]
-    ]

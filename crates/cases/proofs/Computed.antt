@@ -2,7 +2,7 @@
 use mathlib.Core.Path.{_≡_, refl}
 use Rattle.bytes_at.specs.Number.{bigFrom, littleFrom, uintOf, numbersAt}
 use Rattle.bytes_at.specs.Bytes.{sameBytes}
-use Rattle.bytes_at.specs.Lists.{firstFrom, all, allFrom, pairs}
+use Rattle.bytes_at.specs.Lists.{firstFrom, all, allFrom, pairs, allApart}
 use Rattle.bytes_at.specs.Steps.{after, _>>=_}
 use Rattle.bytes_at.specs.Stages.{_▷_, orNo}
 use Rattle.aipsio_rules.specs.Field.{skipped, skippedEach, judged, settled, sizedAt, uintAt, rangedAt, agreed, markAt, textBefore, textAt, stringAt, nameAt}
@@ -13,19 +13,19 @@ use Rattle.table_rules.specs.ColumnSet.{kindOf, columnSetHeadAt, firstNumber, n
 use Rattle.table_rules.specs.Table.{tableHeadAt, tableDescHeadAt, refusedTable, describedAs}
 use Rattle.standard_rules.specs.Index.{links, chainOk, chainText, chainHolds, offsetOk, indexOk, indexText, freeOk, ssmIndexAt, setInto, setsAt, indexed, indexIn, indexTextOf}
 use Rattle.standard_rules.specs.Place.{entryOf}
-use Rattle.standard_rules.specs.Map.{covers, boundTo, dataOf, fits, inBucket, clear, setsFrom, columnsFrom, mapOf}
+use Rattle.standard_rules.specs.Map.{covers, boundTo, dataOf, fits, inBucket, clear, setsFrom, columnsFrom, mapWith}
 use Rattle.standard_rules.specs.Header.{headerRoom, bucketFieldsAt, indexFieldsAt, headed, headerIn}
-use Rattle.standard_rules.specs.Check.{padded, refusalOf, checkedAs}
+use Rattle.standard_rules.specs.Check.{padded, refusalWith, checkedWith}
 use Rattle.lookup_rules.specs.Questions.{kindWith, targetOf, fileOf, planFor, samePlan, stagesAfter, stagesOf, placeIn, answered, answerFor, roomFor}
 use Rattle.lookup_rules.specs.Demand.{inStandard}
 use Rattle.cases.specs.SmallFile.{tableDat}
 use Rattle.cases.specs.Cases.{cases, Right}
 
 pub right : Right
-unfolding bigFrom littleFrom uintOf sameBytes firstFrom after _>>=_ _▷_ orNo skipped skippedEach judged settled sizedAt uintAt rangedAt agreed markAt textBefore textAt stringAt nameAt entered opened closed passed recordAt blockAt mapAt ipositionAt axisInto axesAt shapeAt typePlace typeName withNumber withName columnTypeOf cellBits columnTypeAt columnHeadAt notesAt optionsAt dimensionsAt elementsAt layoutAt defaultAt tailAt columnRestAt noColumn isNamed firstNamed columnInto columnsAt kindOf columnSetHeadAt firstNumber noManager managerInto managersAt sequenceAt ownShapeAt noOwner ownerInto ownersAt infoInto infosAt noBinding bindingOf bindingAt bindingsAt tableHeadAt tableDescHeadAt refusedTable describedAs links chainOk chainText chainHolds offsetOk indexOk indexText freeOk all allFrom pairs entryOf covers boundTo dataOf fits inBucket clear numbersAt bucketFieldsAt indexFieldsAt headed headerIn ssmIndexAt setInto setsAt indexed indexIn indexTextOf setsFrom columnsFrom mapOf refusalOf checkedAs kindWith targetOf fileOf placeIn planFor samePlan stagesOf answered answerFor roomFor stagesAfter padded cases
+unfolding bigFrom littleFrom uintOf sameBytes firstFrom after _>>=_ _▷_ orNo skipped skippedEach judged settled sizedAt uintAt rangedAt agreed markAt textBefore textAt stringAt nameAt entered opened closed passed recordAt blockAt mapAt ipositionAt axisInto axesAt shapeAt typePlace typeName withNumber withName columnTypeOf cellBits columnTypeAt columnHeadAt notesAt optionsAt dimensionsAt elementsAt layoutAt defaultAt tailAt columnRestAt noColumn isNamed firstNamed columnInto columnsAt kindOf columnSetHeadAt firstNumber noManager managerInto managersAt sequenceAt ownShapeAt noOwner ownerInto ownersAt infoInto infosAt noBinding bindingOf bindingAt bindingsAt tableHeadAt tableDescHeadAt refusedTable describedAs links chainOk chainText chainHolds offsetOk indexOk indexText freeOk all allFrom pairs allApart entryOf covers boundTo dataOf fits inBucket clear numbersAt bucketFieldsAt indexFieldsAt headed headerIn ssmIndexAt setInto setsAt indexed indexIn indexTextOf setsFrom columnsFrom mapWith refusalWith checkedWith kindWith targetOf fileOf placeIn planFor samePlan stagesOf answered answerFor roomFor stagesAfter padded cases
 right = refl
 
 -- the small table's manager is a StandardStMan
 pub small-standard : inStandard tableDat 0
-unfolding bigFrom littleFrom uintOf sameBytes firstFrom after _>>=_ _▷_ orNo skipped skippedEach judged settled sizedAt uintAt rangedAt agreed markAt textBefore textAt stringAt nameAt entered opened closed passed recordAt blockAt mapAt ipositionAt axisInto axesAt shapeAt typePlace typeName withNumber withName columnTypeOf cellBits columnTypeAt columnHeadAt notesAt optionsAt dimensionsAt elementsAt layoutAt defaultAt tailAt columnRestAt noColumn isNamed firstNamed columnInto columnsAt kindOf columnSetHeadAt firstNumber noManager managerInto managersAt sequenceAt ownShapeAt noOwner ownerInto ownersAt infoInto infosAt noBinding bindingOf bindingAt bindingsAt tableHeadAt tableDescHeadAt refusedTable describedAs links chainOk chainText chainHolds offsetOk indexOk indexText freeOk all allFrom pairs entryOf covers boundTo dataOf fits inBucket clear numbersAt bucketFieldsAt indexFieldsAt headed headerIn ssmIndexAt setInto setsAt indexed indexIn indexTextOf setsFrom columnsFrom mapOf refusalOf checkedAs kindWith targetOf fileOf placeIn planFor samePlan stagesOf answered answerFor roomFor stagesAfter padded
+unfolding bigFrom littleFrom uintOf sameBytes firstFrom after _>>=_ _▷_ orNo skipped skippedEach judged settled sizedAt uintAt rangedAt agreed markAt textBefore textAt stringAt nameAt entered opened closed passed recordAt blockAt mapAt ipositionAt axisInto axesAt shapeAt typePlace typeName withNumber withName columnTypeOf cellBits columnTypeAt columnHeadAt notesAt optionsAt dimensionsAt elementsAt layoutAt defaultAt tailAt columnRestAt noColumn isNamed firstNamed columnInto columnsAt kindOf columnSetHeadAt firstNumber noManager managerInto managersAt sequenceAt ownShapeAt noOwner ownerInto ownersAt infoInto infosAt noBinding bindingOf bindingAt bindingsAt tableHeadAt tableDescHeadAt refusedTable describedAs links chainOk chainText chainHolds offsetOk indexOk indexText freeOk all allFrom pairs allApart entryOf covers boundTo dataOf fits inBucket clear numbersAt bucketFieldsAt indexFieldsAt headed headerIn ssmIndexAt setInto setsAt indexed indexIn indexTextOf setsFrom columnsFrom mapWith refusalWith checkedWith kindWith targetOf fileOf placeIn planFor samePlan stagesOf answered answerFor roomFor stagesAfter padded
 small-standard = refl

@@ -3,17 +3,17 @@
 -- Assumes nothing.
 use mathlib.Core.Path.{_≡_, sym, ap, _∙_}
 use mathlib.Core.List.{List, [], _∷_, _++_}
-use mathlib.Core.Bool.{Bool, true}
+use mathlib.Core.Bool.{true}
 use Prim.Native.Nat.{ℕ, zero, suc, _+_, _≤_, _<_}
 use native.Mathlib.Numerals.{add-one}
 use native.Mathlib.Omega.{arith}
 use lib.ListN.{length, getD}
-use lib.Dec.{T, ltb, eqb, ltb→lt, lt→ltb, eqb→eq, eqb-refl, not-T}
+use lib.Dec.{T, ltb, eqb, ltb→lt, lt→ltb, eqb→eq, eqb-refl}
 use store.Enc.{and-l, and-r}
 use Rattle.bytes_at.specs.Number.{uintOf, numbersAt}
-use Rattle.bytes_at.specs.Lists.{all, pairs, below, unlike, allApart}
-use Rattle.bytes_at.proofs.Tests.{both, all-yes, pairs-yes}
-use Rattle.bytes_at.proofs.Apart.{front-below, front-once, front-back}
+use Rattle.bytes_at.specs.Lists.{allApart}
+use Rattle.bytes_at.proofs.Tests.{both}
+use Rattle.bytes_at.proofs.Apart.{one-place, apart-different, apart-joined, front-apart, front-below, front-back, apart-across}
 use Rattle.bytes_at.proofs.Listed.{numbers-length, number-at}
 use Rattle.standard_rules.specs.Index.{freeOk}
 use Rattle.standard_rules.proofs.Counted.{links-long, free-below, free-once}
@@ -38,43 +38,6 @@ module _ (rows : ℕ) where
   unfolding risesTo
   rises-yes last [] h e = rw e (eqb-refl rows)
   rises-yes last (x ∷ xs) h e = both (ltb last x) _ (lt→ltb last x (h 0 (omega arith))) (rises-yes x xs (λ i k. h (suc i) (omega arith)) e)
-
--- ---- a list and one after it
-all-join : (f : ℕ → Bool) (xs ys : List ℕ) → T (all f xs) → T (all f ys) → T (all f (xs ++ ys))
-unfolding all
-all-join f [] ys s t = t
-all-join f (x ∷ xs) ys s t = both (f x) (all f (xs ++ ys)) (and-l (f x) (all f xs) s) (all-join f xs ys (and-r (f x) (all f xs) s) t)
-
-pairs-join : (f : ℕ → ℕ → Bool) (xs ys : List ℕ) → T (pairs f xs) → T (pairs f ys)
-    → ((i j : ℕ) → i < length xs → j < length ys → T (f (getD xs i 0) (getD ys j 0))) → T (pairs f (xs ++ ys))
-unfolding pairs
-pairs-join f [] ys s t h = t
-pairs-join f (x ∷ xs) ys s t h =
-    both (all (f x) (xs ++ ys)) (pairs f (xs ++ ys))
-    (all-join (f x) xs ys (and-l (all (f x) xs) (pairs f xs) s) (all-yes (f x) ys 0 (λ j k. h 0 j (omega arith) k)))
-    (pairs-join f xs ys (and-r (all (f x) xs) (pairs f xs) s) t (λ i j k l. h (suc i) j (omega arith) l))
-
-unlike-yes : (a b : ℕ) → (a ≡ b → ⊥) → T (unlike a b)
-unlike-yes a b n = not-T (eqb a b) (λ t. n (eqb→eq a b t))
-
--- numbers that are in range and all different
-record Good (nb : ℕ) (l : List ℕ) : Type 0 where
-  in-range : (i : ℕ) → i < length l → getD l i 0 < nb
-  different : (i j : ℕ) → i < j → j < length l → getD l i 0 ≡ getD l j 0 → ⊥
-
-apart-join : (nb : ℕ) (xs ys : List ℕ) → Good nb xs → Good nb ys
-    → ((i j : ℕ) → i < length xs → j < length ys → getD xs i 0 ≡ getD ys j 0 → ⊥) → T (allApart nb (xs ++ ys))
-unfolding allApart
-apart-join nb xs ys a b n =
-    both (all (below nb) (xs ++ ys)) (pairs unlike (xs ++ ys))
-    (all-join (below nb) xs ys (ranged xs a) (ranged ys b))
-    (pairs-join unlike xs ys (once xs a) (once ys b) (λ i j k l. unlike-yes _ _ (n i j k l)))
-  where
-    ranged : (l : List ℕ) → Good nb l → T (all (below nb) l)
-    ranged l g = all-yes (below nb) l 0 (λ i k. lt→ltb _ nb (g .in-range i k))
-
-    once : (l : List ℕ) → Good nb l → T (pairs unlike l)
-    once l g = pairs-yes unlike l 0 (λ i j k m. unlike-yes _ _ (g .different i j k m))
 
 module _ (rows : ℕ) (f : List ℕ) (h : Header) (x : Index) where
   abbrev numbers : List ℕ
@@ -114,7 +77,7 @@ module _ (rows : ℕ) (f : List ℕ) (h : Header) (x : Index) where
           in-range = λ i l. rw (number-is i l) at (front-below (h .count) numbers (freeBuckets f h) apart i (known l));
           different = λ i j l m e.
               let k : i < n = omega arith in
-              omega (arith, front-once (h .count) numbers (freeBuckets f h) apart i j (known k) (known m) (number-is i k ∙ e ∙ sym (number-is j m)));
+              omega (arith, one-place (h .count) numbers (front-apart (h .count) numbers (freeBuckets f h) apart) i j (known k) (known m) (number-is i k ∙ e ∙ sym (number-is j m)));
           not-free = λ i j l m e. front-back (h .count) numbers (freeBuckets f h) apart i j (known l) m (number-is i l ∙ e);
           from-zero = sym (first-is (suc n) 0 (omega arith)) ∙ eqb→eq first 0 (and-l (eqb first 0) _ rising);
           rise = λ i l.
@@ -124,16 +87,17 @@ module _ (rows : ℕ) (f : List ℕ) (h : Header) (x : Index) where
 
   -- ---- and what the sentence says passes the test
   module _ (a : IndexAccepted rows f h x) where
-    numbers-good : Good (h .count) numbers
-    numbers-good =
-        let long : length numbers ≡ x .count = numbers-length true 4 f (x .buckets) (x .count) in
-        record {
-          in-range = λ i l. let k : i < x .count = omega arith in rw (number-is i k) (a .in-range i k);
-          different = λ i j l m e.
-              let k : i < x .count = omega arith in
-              let p : j < x .count = omega arith in
-              a .different i j l p (sym (number-is i k) ∙ e ∙ number-is j p);
-        }
+    long : length numbers ≡ x .count
+    long = numbers-length true 4 f (x .buckets) (x .count)
+
+    numbers-apart : T (allApart (h .count) numbers)
+    numbers-apart =
+        apart-different (h .count) numbers
+        (λ i l. let k : i < x .count = omega (arith, long) in rw (number-is i k) (a .in-range i k))
+        (λ i j l m e.
+        let k : i < x .count = omega (arith, long) in
+        let p : j < x .count = omega (arith, long) in
+        a .different i j l p (sym (number-is i k) ∙ e ∙ number-is j p))
 
     firsts-good : T (firstsFit rows (firsts (suc (x .count))))
     unfolding firstsFit numbersAt
@@ -151,18 +115,18 @@ module _ (rows : ℕ) (f : List ℕ) (h : Header) (x : Index) where
         (rw long (first-is (suc n) n (omega arith) ∙ a .to-rows)))
 
     module _ (few : h .count ≤ 4096) (t : T (freeOk f (h .size) (h .count) (h .«free_count») (h .«first_free»))) where
-      free-good : Good (h .count) (freeBuckets f h)
-      free-good =
-          let long = links-long f (h .size) (h .«free_count») (h .«first_free») in
-          record {
-            in-range = λ i l. free-below f (h .size) (h .count) few (h .«free_count») (h .«first_free») t i (omega arith);
-            different = λ i j l m. free-once f (h .size) (h .count) few (h .«free_count») (h .«first_free») t i j l (omega arith);
-          }
+      free-apart : T (allApart (h .count) (freeBuckets f h))
+      free-apart =
+          let many = links-long f (h .size) (h .«free_count») (h .«first_free») in
+          apart-different (h .count) (freeBuckets f h)
+          (λ i l. free-below f (h .size) (h .count) few (h .«free_count») (h .«first_free») t i (omega arith))
+          (λ i j l m. free-once f (h .size) (h .count) few (h .«free_count») (h .«first_free») t i j l (omega arith))
 
       pub index-passes : T (indexFits rows f h x)
       unfolding indexFits
       index-passes =
           both (allApart (h .count) (numbers ++ freeBuckets f h)) (firstsFit rows (firsts (x .count + 1)))
-          (apart-join (h .count) numbers (freeBuckets f h) numbers-good free-good
-          (λ i j l m e. let k : i < x .count = omega (arith, numbers-length true 4 f (x .buckets) (x .count)) in a .not-free i j k m (sym (number-is i k) ∙ e)))
+          (apart-joined (h .count) numbers (freeBuckets f h) numbers-apart
+          (apart-across (h .count) numbers (freeBuckets f h) (λ i j l m e. let k : i < x .count = omega (arith, long) in a .not-free i j k m (sym (number-is i k) ∙ e)))
+          free-apart)
           (rw add-one firsts-good)

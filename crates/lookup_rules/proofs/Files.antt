@@ -9,14 +9,14 @@ use borrow.Author.Tests.{eq-eqb, ne-eqb}
 use Rattle.bytes_at.specs.Steps.{_>>=_}
 use Rattle.bytes_at.proofs.Stages.{then-left}
 use Rattle.table_rules.specs.declared.Description.{Description}
-use Rattle.standard_rules.specs.Check.{refusalOf, checkedAs}
+use Rattle.standard_rules.specs.Check.{refusalWith, checkedWith, refusalOf, checkedAs}
 use Rattle.incremental_rules.specs.Check.{refusalOf as incrementalRefusal, checkedAs as incrementalAs}
 use Rattle.lookup_rules.specs.declared.Target.{Target}
 use Rattle.lookup_rules.specs.declared.FileChecked.{FileChecked}
 use Rattle.lookup_rules.specs.Questions.{ofStandard, ofIncremental, fileOf, planFor}
 
 check-passed : (d : Description) (sequence : ℕ) (f : List ℕ) (refused k l : ℕ) → checkedAs d sequence f refused k l .refused ≡ refusalOf d sequence f refused l
-unfolding checkedAs
+unfolding checkedWith
 check-passed d sequence f refused k l = elim (ℕ-discrete (refusalOf d sequence f refused l) 0) [
   | yes e ↦ rw (eq-eqb (refusalOf d sequence f refused l) 0 e) (sym e)
   | no n ↦ rw (ne-eqb (refusalOf d sequence f refused l) 0 n)
@@ -92,7 +92,7 @@ module _ (d : Description) (g : Target) (f : List ℕ) (l : ℕ) where
   incremental-target e row h = then-left _ _ (sym (incremental-refused e row) ∙ h)
 
   standard-target : g .incremental ≡ false → (row : ℕ) → fileOf d g f row l .refused ≡ 0 → g .refused ≡ 0
-  unfolding refusalOf
+  unfolding refusalWith
   standard-target e row h = then-left _ _ (sym (standard-refused e row) ∙ h)
 
   either-target : (b : Bool) → g .incremental ≡ b → (row : ℕ) → fileOf d g f row l .refused ≡ 0 → g .refused ≡ 0

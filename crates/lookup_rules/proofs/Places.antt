@@ -12,7 +12,7 @@ use Rattle.table_rules.specs.Table.{describedAs, bindingIn}
 use Rattle.standard_rules.specs.Place.{Bits, placeOf}
 use Rattle.standard_rules.specs.Map.{fits, Kept, mapOf}
 use Rattle.standard_rules.proofs.Places.{every-two}
-use Rattle.standard_rules.specs.Check.{refusalOf}
+use Rattle.standard_rules.specs.Check.{refusalWith, refusalOf}
 use Rattle.lookup_rules.specs.declared.Request.{Request}
 use Rattle.lookup_rules.specs.declared.Question.the-variants.{Place}
 use Rattle.lookup_rules.specs.Questions.{columnOf, requestOf, kindWith, isIncremental, placeIn, answerFor, answerOf}
@@ -25,7 +25,7 @@ use Rattle.lookup_rules.proofs.Files.{standard-refused}
 use Rattle.lookup_rules.proofs.Stages.{targetFor, target-sequence, target-kind, passed}
 
 pub map-fits : (d : Description) (sequence : ℕ) (f : List ℕ) (refused l : ℕ) → refusalOf d sequence f refused l ≡ 0 → T (fits (mapOf d sequence f))
-unfolding refusalOf
+unfolding refusalWith
 map-fits d sequence f refused l h = or-passed (fits (mapOf d sequence f)) 10 (search (then-left, then-right) depth 9)
 
 pub place-standard : (d : Description) (sequence : ℕ) (f : List ℕ) (row c : ℕ) → placeIn d false sequence f row c ≡ placeOf (mapOf d sequence f) row c
@@ -57,7 +57,7 @@ module _ (t f : List ℕ) (sequence l : ℕ) (r : Request) (w : Cell r) (k : inS
   shown =
       let x = passed t f r l h in
       record {
-        fit = rw own at (map-fits _ _ f _ l accepted);
+        fit = rw own at (map-fits (describedAs t) _ f _ l accepted);
         kept = column-kept (describedAs t) sequence f (r .position) (cell-column r _ w (x .column)) e;
         below = rw map-rows (cell-row r _ w (x .row));
         same =

@@ -17,11 +17,11 @@ use Rattle.table_rules.specs.declared.Kind.{Kind}
 use Rattle.table_rules.specs.declared.Kind.the-variants.{Other, Standard, Incremental}
 use Rattle.table_rules.specs.declared.Description.{Description}
 use Rattle.table_rules.specs.Table.{describedAs, columnIn, bindingIn}
-use Rattle.standard_rules.specs.Map.{Map, columnAt, mapOf}
+use Rattle.standard_rules.specs.Map.{Map, columnAt, mapWith, mapOf}
 use Rattle.standard_rules.specs.Header.{bucketStart, headerAt}
 use Rattle.standard_rules.specs.Place.{Bits, placeOf, bucketIn, localRow}
 use Rattle.standard_rules.proofs.Places.{every-two}
-use Rattle.standard_rules.specs.Check.{longEnough, refusalOf}
+use Rattle.standard_rules.specs.Check.{longEnough, refusalWith, refusalOf}
 use Rattle.incremental_rules.specs.Header.{headerAt as incrementalHeader}
 use Rattle.incremental_rules.specs.Check.{refusalOf as incrementalRefusal}
 use Rattle.incremental_rules.specs.Place.{placeOf as incrementalPlace, bitOf}
@@ -62,7 +62,7 @@ bucket-end size {b} {count} h =
 -- ---- in StandardStMan
 long-enough : (d : Description) (sequence : ℕ) (f : List ℕ) (refused l : ℕ) → refusalOf d sequence f refused l ≡ 0
     → 512 + mapOf d sequence f .count * mapOf d sequence f .size ≤ length f
-unfolding refusalOf mapOf
+unfolding refusalWith mapWith
 long-enough d sequence f refused l h = leb→le _ _ (or-passed (longEnough (length f) (headerAt f (d .big) .size) (headerAt f (d .big) .count)) 0 (search (then-left, then-right) depth 9))
 
 -- ---- in IncrementalStMan

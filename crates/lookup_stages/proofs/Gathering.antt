@@ -12,12 +12,10 @@ use Rattle.table_rules.specs.declared.Column.{Column}
 use Rattle.table_rules.specs.ColumnDesc.{noColumn}
 use Rattle.table_rules.specs.declared.Binding.{Binding}
 use Rattle.table_rules.specs.ColumnSet.{noBinding}
-use Rattle.table_rules.specs.declared.Description.{Description}
 use Rattle.standard_rules.specs.Map.{MapColumn, mapColumn, columnsFrom}
 use Rattle.standard.specs.Columns.{columnBy, columnsBy}
 use Rattle.standard.proofs.columns.Listed.{listed, listed-same, filled, filled-none, filled-more, filled-at}
 use Rattle.standard.proofs.columns.Facts.{columns-listed}
-use Rattle.standard.specs.Check.{Given}
 
 -- the first i numbers of a list of 64 are uInts
 pub record Words (l : List ℕ) (i : ℕ) : Type 0 where
@@ -97,7 +95,8 @@ module _ (sequence : ℕ) (cs : List Column) (bs : List Binding) where
           (rw (v .offsets-is) (filled-at _ (replicate 64 0) 0 i j (omega (arith, all-in, v .few)) (omega (arith, all-in))))
           (rw (v .bits-is) (filled-at _ (replicate 64 0) 0 i j (omega (arith, all-in, v .few)) (omega (arith, all-in))))
 
-      gathered : columnsFrom sequence cs bs n 0 ≡ columnsBy kept owners offsets bits n 0
+      -- the lists are those of the columns
+      pub gathered : columnsFrom sequence cs bs n 0 ≡ columnsBy kept owners offsets bits n 0
       gathered =
           from-listed n 0
           ∙ sym (columns-listed kept owners offsets bits n 0 ∙ listed-same (columnBy kept owners offsets bits) columnIn n 0 column-at)
@@ -107,9 +106,3 @@ module _ (sequence : ℕ) (cs : List Column) (bs : List Binding) where
 
       pub bits-low : (j : ℕ) → j < n → getD bits j 0 < 4294967296
       bits-low j g = v .bits-words .each j (omega (arith, all-in))
-
--- the lists are those of a table
-pub given : (d : Description) (sequence : ℕ) {kept : List Bool} {owners offsets bits : List ℕ} {i : ℕ}
-    → Gathering sequence (d .columns) (d .bindings) (d .«column_count») kept owners offsets bits i → d .«column_count» ≤ i
-    → Given d sequence (d .rows) (d .big) (columnsBy kept owners offsets bits (d .«column_count») 0)
-given d sequence v h = record { rows-are = refl; big-is = refl; columns-are = gathered sequence (d .columns) (d .bindings) v h }

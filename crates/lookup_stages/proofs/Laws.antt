@@ -16,7 +16,8 @@ use Rattle.table_rules.specs.declared.Binding.{Binding}
 use Rattle.table_rules.specs.ColumnSet.{noBinding}
 use Rattle.table_rules.specs.declared.Description.{Description}
 use Rattle.table_rules.specs.Table.{describedAs}
-use Rattle.standard_rules.specs.Check.{padded, checkedAs}
+use Rattle.standard_rules.specs.Check.{padded, checkedWith}
+use Rattle.standard_rules.specs.Map.{MapColumn, columnsOf}
 use Rattle.standard_rules.specs.declared.Set.{Set}
 use Rattle.standard_rules.specs.Header.{headerAt}
 use Rattle.standard_rules.specs.Index.{noSet, indexTextOf}
@@ -83,6 +84,7 @@ module _ (t f : List ℕ) (r : Request) (l : ℕ) {d : Description} (e : d ≡ d
       → s ≡ stagesAfter r g (record { refused = m .refused; size = m .size; set = none; first = m .first }) (d .rows) → s ≡ stagesOf t f r l
   stages-there k p n q = all-stages (rw (file-incremental d g f l k (r .row), p, n)) q
 
-  pub stages-here : {m : Checked} {s : Staged} → g .incremental ≡ false → m ≡ checkedAs d (g .sequence) f (g .refused) (g .binding .set) l
+  pub stages-here : {m : Checked} {cs : List MapColumn} {s : Staged} → g .incremental ≡ false → columnsOf d (g .sequence) ≡ cs
+      → m ≡ checkedWith (d .rows) (d .big) cs f (g .refused) (g .binding .set) l
       → s ≡ stagesAfter r g (record { refused = m .refused; size = m .size; set = m .set; first = 0 }) (d .rows) → s ≡ stagesOf t f r l
-  stages-here k p q = all-stages (rw (file-standard d g f l k (r .row), p)) q
+  stages-here k i p q = all-stages (rw (file-standard d g f l k (r .row), i, p)) q

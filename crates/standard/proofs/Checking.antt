@@ -11,17 +11,16 @@ use Rattle.bytes_at.specs.Stages.{_▷_, orNo}
 use Rattle.bytes_at.proofs.Stages.{then-left, then-right, or-passed, stops, goes, regroup, no-is, yes-is}
 use Rattle.buckets.specs.Area.{Area}
 use Rattle.standard_rules.specs.Index.{indexOk, indexText, freeOk, noSet, indexAt, indexTextOf}
-use Rattle.standard_rules.specs.Check.{padded, longEnough, refusalOf, checkedAs}
+use Rattle.standard_rules.specs.Check.{padded, longEnough, refusalWith, checkedWith}
 use Rattle.standard_index.proofs.chain.Room.{index-long, padded-text}
-use Rattle.standard_rules.specs.Map.{MapColumn, fits, setsFrom, mapWith, mapOf}
-use Rattle.table_rules.specs.declared.Description.{Description}
+use Rattle.standard_rules.specs.Map.{MapColumn, fits, setsFrom, mapFrom, mapWith}
 use Rattle.standard_rules.specs.declared.Header.{Header}
 use Rattle.standard_rules.specs.Header.{headerAt}
 use Rattle.standard_index.specs.Bounds.{HeaderBounds}
 use Rattle.standard_rules.specs.declared.Set.{Set}
 use Rattle.standard_rules.specs.declared.Index.{Index}
 use Rattle.standard_rules.specs.declared.Checked.{Checked}
-use Rattle.standard.specs.Check.{Given, mapped, beforeIndex, refusedFile}
+use Rattle.standard.specs.Check.{mapped, beforeIndex, refusedFile}
 
 -- ---- what the first stages show
 pub head-passed : (refused : ℕ) (h : Header) (len room : ℕ) → beforeIndex refused h len room ≡ 0 → h .refused ≡ 0
@@ -58,23 +57,22 @@ module _ (f : List ℕ) (h : Header) (l : ℕ) (area : Area f (h .size) (h .coun
     pub index-is : {ix : Index} → ix ≡ indexAt y (h .sets) → ix ≡ indexAt (indexTextOf f h) (h .sets)
     index-is v = v ∙ ap (λ (t : List ℕ). indexAt t (h .sets)) (text-is p q)
 
-    pub map-is : (rows : ℕ) (cs : List MapColumn) (sets : List Set) {m : Bool} → m ≡ fits (mapWith rows cs f h (setsFrom y sets (h .sets) 0))
-        → m ≡ fits (mapWith rows cs f h (setsFrom (indexTextOf f h) sets (h .sets) 0))
-    map-is rows cs sets v = v ∙ ap (λ (t : List ℕ). fits (mapWith rows cs f h (setsFrom t sets (h .sets) 0))) (text-is p q)
+    pub map-is : (rows : ℕ) (cs : List MapColumn) (sets : List Set) {m : Bool} → m ≡ fits (mapFrom rows cs f h (setsFrom y sets (h .sets) 0))
+        → m ≡ fits (mapFrom rows cs f h (setsFrom (indexTextOf f h) sets (h .sets) 0))
+    map-is rows cs sets v = v ∙ ap (λ (t : List ℕ). fits (mapFrom rows cs f h (setsFrom t sets (h .sets) 0))) (text-is p q)
 
     pub room-holds : x ≡ padded l (indexTextOf f h)
     room-holds = room-is p
 
--- ---- the whole refusal, and what is answered, of any table whose rows, endianness and columns are those given. h is the header
--- that was read, and n, x and t what was found on the way.
+-- ---- the whole refusal, and what is answered. h is the header that was read, and n, x and t what was found on the way.
 module _ (rows : ℕ) (big : Bool) (cs : List MapColumn) (f : List ℕ) (refused k l : ℕ) (h : Header) (e : h ≡ headerAt f big) where
   -- the refusal is n
   abbrev Refuses : ℕ → Type 0
-  Refuses n = (d : Description) (sequence : ℕ) → Given d sequence rows big cs → refusalOf d sequence f refused l ≡ n
+  Refuses n = refusalWith rows big cs f refused l ≡ n
 
   -- what is answered, and what is then said of the room
   abbrev Answers : Checked → Type 0 → Type 0
-  Answers r X = ((d : Description) (sequence : ℕ) → Given d sequence rows big cs → r ≡ checkedAs d sequence f refused k l) × (r .refused ≡ 0 → X)
+  Answers r X = (r ≡ checkedWith rows big cs f refused k l) × (r .refused ≡ 0 → X)
 
   abbrev indexed : Bool
   indexed = indexOk f (h .size) (h .count) (h .«index_count») (h .«first_index») (h .offset) (h .length)
@@ -84,52 +82,52 @@ module _ (rows : ℕ) (big : Bool) (cs : List MapColumn) (f : List ℕ) (refused
 
   -- the map as the code has it: over the header, the text and the sets that were read
   abbrev fitting : Bool
-  fitting = fits (mapWith rows cs f h (setsFrom (indexTextOf f h) (indexAt (indexTextOf f h) (h .sets) .sets) (h .sets) 0))
+  fitting = fits (mapFrom rows cs f h (setsFrom (indexTextOf f h) (indexAt (indexTextOf f h) (h .sets) .sets) (h .sets) 0))
 
-  same-map : (d : Description) (sequence : ℕ) → Given d sequence rows big cs → fits (mapOf d sequence f) ≡ fitting
-  unfolding mapOf
-  same-map d sequence g = rw (g .rows-are, g .columns-are, g .big-is, ← e)
+  same-map : fits (mapWith rows big cs f) ≡ fitting
+  unfolding mapWith
+  same-map = rw (← e)
 
   staged : Refuses (beforeIndex refused h (length f) l ▷ (orNo indexed 10 ▷ (indexAt (indexTextOf f h) (h .sets) .refused ▷ (orNo freed 10 ▷ orNo fitting 11))))
-  unfolding refusalOf beforeIndex
-  staged d sequence g = rw (same-map d sequence g, g .big-is, ← e) (sym (rw (regroup, regroup, regroup)))
+  unfolding refusalWith beforeIndex
+  staged = rw (same-map, ← e) (sym (rw (regroup, regroup, regroup)))
 
   -- the answer is refused with n, and nothing is said of the room
   out : (n : ℕ) {r : Checked} {X : Type 0} → Refuses n → (n ≡ 0 → ⊥) → r ≡ refusedFile n → Answers r X
-  unfolding checkedAs refusedFile
-  out n q z p = (λ d sequence g. p ∙ sym (rw (q d sequence g, ne-eqb n 0 z)), λ w. absurd (z (sym (ap (λ (x : Checked). x .refused) p) ∙ w)))
+  unfolding checkedWith refusedFile
+  out n q z p = (p ∙ sym (rw (q, ne-eqb n 0 z)), λ w. absurd (z (sym (ap (λ (x : Checked). x .refused) p) ∙ w)))
 
   pub out-first : (n : ℕ) {r : Checked} {X : Type 0} → n ≡ beforeIndex refused h (length f) l → (n ≡ 0 → ⊥) → r ≡ refusedFile n → Answers r X
-  out-first n q z p = out n (λ d sequence g. staged d sequence g ∙ rw (← q) (stops n _ z)) z p
+  out-first n q z p = out n (staged ∙ rw (← q) (stops n _ z)) z p
 
   module _ {n : ℕ} (q : n ≡ beforeIndex refused h (length f) l) (z : n ≡ 0) where
     after-first : Refuses (orNo indexed 10 ▷ (indexAt (indexTextOf f h) (h .sets) .refused ▷ (orNo freed 10 ▷ orNo fitting 11)))
-    after-first d sequence g = staged d sequence g ∙ goes _ _ (sym q ∙ z)
+    after-first = staged ∙ goes _ _ (sym q ∙ z)
 
     pub out-index : {i : Bool} {r : Checked} {X : Type 0} → i ≡ indexed → i ≡ false → r ≡ refusedFile 10 → Answers r X
-    out-index a b p = out 10 (λ d sequence g. after-first d sequence g ∙ rw (no-is indexed 10 (sym a ∙ b)) (stops 10 _ (omega arith))) (omega arith) p
+    out-index a b p = out 10 (after-first ∙ rw (no-is indexed 10 (sym a ∙ b)) (stops 10 _ (omega arith))) (omega arith) p
 
     module _ {i : Bool} (a : i ≡ indexed) (b : i ≡ true) {x : Index} (y : x ≡ indexAt (indexTextOf f h) (h .sets)) where
       after-index : Refuses (x .refused ▷ (orNo freed 10 ▷ orNo fitting 11))
-      after-index d sequence g = after-first d sequence g ∙ goes _ _ (yes-is indexed 10 (sym a ∙ b)) ∙ rw y
+      after-index = after-first ∙ goes _ _ (yes-is indexed 10 (sym a ∙ b)) ∙ rw y
 
       pub out-text : {r : Checked} {X : Type 0} → (x .refused ≡ 0 → ⊥) → r ≡ refusedFile (x .refused) → Answers r X
-      out-text w p = out (x .refused) (λ d sequence g. after-index d sequence g ∙ stops (x .refused) _ w) w p
+      out-text w p = out (x .refused) (after-index ∙ stops (x .refused) _ w) w p
 
       module _ (w : x .refused ≡ 0) where
         pub out-free : {g : Bool} {r : Checked} {X : Type 0} → g ≡ freed → g ≡ false → r ≡ refusedFile 10 → Answers r X
-        out-free c v p = out 10 (λ d sequence g. after-index d sequence g ∙ goes _ _ w ∙ rw (no-is freed 10 (sym c ∙ v)) (stops 10 _ (omega arith))) (omega arith) p
+        out-free c v p = out 10 (after-index ∙ goes _ _ w ∙ rw (no-is freed 10 (sym c ∙ v)) (stops 10 _ (omega arith))) (omega arith) p
 
         module _ {t : Bool} (c : t ≡ freed) (v : t ≡ true) where
-          after-free : {m : Bool} → m ≡ fits (mapWith rows cs f h (setsFrom (indexTextOf f h) (x .sets) (h .sets) 0)) → Refuses (orNo m 11)
-          after-free u d sequence g = after-index d sequence g ∙ goes _ _ w ∙ goes _ _ (yes-is freed 10 (sym c ∙ v)) ∙ rw (u, y)
+          after-free : {m : Bool} → m ≡ fits (mapFrom rows cs f h (setsFrom (indexTextOf f h) (x .sets) (h .sets) 0)) → Refuses (orNo m 11)
+          after-free u = after-index ∙ goes _ _ w ∙ goes _ _ (yes-is freed 10 (sym c ∙ v)) ∙ rw (u, y)
 
-          module _ {m : Bool} (u : m ≡ fits (mapWith rows cs f h (setsFrom (indexTextOf f h) (x .sets) (h .sets) 0))) {r : Checked} {room : List ℕ}
+          module _ {m : Bool} (u : m ≡ fits (mapFrom rows cs f h (setsFrom (indexTextOf f h) (x .sets) (h .sets) 0))) {r : Checked} {room : List ℕ}
               (p : r ≡ mapped m (h .size) (getD (x .sets) k noSet)) (o : room ≡ padded l (indexTextOf f h)) where
             by-map : (b : Bool) → m ≡ b → Answers r (room ≡ padded l (indexTextOf f (headerAt f big)))
-            unfolding mapped checkedAs
-            by-map false j = out 11 (λ d sequence g. after-free u d sequence g ∙ no-is _ 11 j) (omega arith) (rw j at p)
-            by-map true j = (λ d sequence g. (rw j at p) ∙ sym (rw (after-free u d sequence g ∙ yes-is _ 11 j, g .big-is, ← e, ← y)), λ z. rw (← e) o)
+            unfolding mapped checkedWith
+            by-map false j = out 11 (after-free u ∙ no-is _ 11 j) (omega arith) (rw j at p)
+            by-map true j = ((rw j at p) ∙ sym (rw (after-free u ∙ yes-is _ 11 j, ← e, ← y)), λ z. rw (← e) o)
 
             pub out-map : Answers r (room ≡ padded l (indexTextOf f (headerAt f big)))
             out-map = by-map m refl

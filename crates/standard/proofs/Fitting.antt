@@ -1,34 +1,33 @@
 -- The map's test in the groups in which the code decides it, and the ways out. Assumes nothing.
 use mathlib.Core.Path.{_≡_, refl, sym}
 use mathlib.Core.Bool.{Bool, true, false, _&&_}
-use mathlib.Core.List.{List}
+use mathlib.Core.List.{List, _++_}
 use Prim.Native.Nat.{ℕ, _≤_}
 use lib.ListN.{length}
 use Rattle.standard_rules.specs.Index.{links}
-use Rattle.bytes_at.specs.Lists.{all, allFrom, pairs, below, unlike}
-use Rattle.standard_rules.specs.Map.{Map, MapColumn, setFits, countFits, setKnown, inBucket, clear, extents, used, fits, setsFrom, mapWith}
+use Rattle.bytes_at.specs.Lists.{all, allFrom, pairs, allApart}
+use Rattle.standard_rules.specs.Map.{Map, MapColumn, setFits, countFits, setKnown, inBucket, clear, extents, used, fits, setsFrom, mapFrom}
 use Rattle.standard_rules.specs.declared.Header.{Header}
 use Rattle.standard_rules.specs.declared.Set.{Set}
 use Rattle.standard_rules.specs.declared.Checked.{Checked}
-use Rattle.standard.specs.Sets.{apartOf, rowsFit, dataBy}
+use Rattle.standard.specs.Sets.{rowsFit, dataBy}
 use Rattle.standard.specs.Columns.{columnsTest}
 use Rattle.standard.specs.Check.{mapped, refusedFile}
 use Rattle.standard.proofs.Gathering.{Gathering, sets-length, rows-in, data-in, counts-in, extents-in}
 
-regroup : (a b c d e f g : Bool) → a && b && c && d && e && f && g ≡ (a && (((c && d) && b) && e)) && (f && g)
-regroup true true true true true f g = refl
-regroup true true true true false f g = refl
-regroup true true true false e f g = refl
-regroup true true false d e f g = refl
-regroup true false true true e f g = refl
-regroup true false true false e f g = refl
-regroup true false false d e f g = refl
-regroup false b c d e f g = refl
+regroup : (a b c d e g : Bool) → a && b && c && d && e && g ≡ (a && (((c && d) && b) && e)) && g
+regroup true true true true e g = refl
+regroup true true true false e g = refl
+regroup true true false d e g = refl
+regroup true false true true e g = refl
+regroup true false true false e g = refl
+regroup true false false d e g = refl
+regroup false b c d e g = refl
 
 module _ (rows : ℕ) (cs : List MapColumn) (f : List ℕ) (h : Header) (text : List ℕ) {sets : List Set} {entries pers columns lasts buckets : List ℕ} {i : ℕ}
     (v : Gathering sets (h .sets) entries pers columns lasts buckets i) (past : h .sets ≤ i) (few : h .sets ≤ 16) where
   abbrev whole : Map
-  whole = mapWith rows cs f h (setsFrom text sets (h .sets) 0)
+  whole = mapFrom rows cs f h (setsFrom text sets (h .sets) 0)
 
   abbrev setsPart : Bool
   setsPart = rowsFit rows text entries pers lasts (h .sets) 0
@@ -37,16 +36,18 @@ module _ (rows : ℕ) (cs : List MapColumn) (f : List ℕ) (h : Header) (text : 
   columnsPart = columnsTest cs pers columns (h .sets) (h .size)
 
   abbrev bucketsPart : Bool
-  bucketsPart = apartOf (h .count) (dataBy text entries buckets (h .sets) 0) (links f (h .size) (h .«index_count») (h .«first_index»)) (links f (h .size) (h .«free_count») (h .«first_free»))
+  bucketsPart =
+      allApart (h .count)
+      (dataBy text entries buckets (h .sets) 0 ++ (links f (h .size) (h .«index_count») (h .«first_index») ++ links f (h .size) (h .«free_count») (h .«first_free»)))
 
   long : length (whole .sets) ≡ h .sets
   long = sets-length text sets (h .sets) 0
 
   parts : (setsPart && columnsPart) && bucketsPart ≡ fits whole
-  unfolding fits apartOf columnsTest
+  unfolding fits columnsTest
   parts =
       rw (rows-in v past few text rows, counts-in v past few text cs, data-in v past few text, extents-in v past few text whole refl cs, long)
-      (sym (regroup (all (setFits rows) (setsFrom text sets (h .sets) 0)) (allFrom (countFits cs) 0 (setsFrom text sets (h .sets) 0)) (all (setKnown (h .sets)) cs) (all (inBucket (h .size)) (extents whole)) (pairs clear (extents whole)) (all (below (h .count)) (used whole)) (pairs unlike (used whole))))
+      (sym (regroup (all (setFits rows) (setsFrom text sets (h .sets) 0)) (allFrom (countFits cs) 0 (setsFrom text sets (h .sets) 0)) (all (setKnown (h .sets)) cs) (all (inBucket (h .size)) (extents whole)) (pairs clear (extents whole)) (allApart (h .count) (used whole))))
 
   by : {a b g : Bool} → a ≡ setsPart → b ≡ columnsPart → g ≡ bucketsPart → (a && b) && g ≡ fits whole
   by p q t = rw (p, q, t) parts

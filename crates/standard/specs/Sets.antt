@@ -6,7 +6,6 @@ use mathlib.Core.List.{List, [], _++_}
 use lib.ListN.{getD}
 use Rattle.standard_rules.specs.Map.{covers}
 use Rattle.bytes_at.specs.Number.{numbersAt}
-use Rattle.bytes_at.specs.Lists.{all, pairs, below, unlike}
 
 -- "last rows rise strictly, none spans more than rows per bucket, the last is rows - 1", of m sets from set k on
 unfoldable pub rowsFit : ℕ → List ℕ → List ℕ → List ℕ → List ℕ → ℕ → ℕ → Bool
@@ -19,6 +18,3 @@ rowsFit rows text entries pers lasts (suc m) k =
 unfoldable pub dataBy : List ℕ → List ℕ → List ℕ → ℕ → ℕ → List ℕ
 dataBy text entries buckets zero k = []
 dataBy text entries buckets (suc m) k = numbersAt true 4 text (getD buckets k 0) (getD entries k 0) ++ dataBy text entries buckets m (suc k)
-
-unfoldable pub apartOf : ℕ → List ℕ → List ℕ → List ℕ → Bool
-apartOf nb dat index free = all (below nb) (dat ++ (index ++ free)) && pairs unlike (dat ++ (index ++ free))

@@ -1,5 +1,5 @@
 // The check of a StandardStMan file (document 01, "StandardStMan"). The columns of the table are lent by position, as
-// `standard_columns` takes them.
+// `columns` takes them.
 pub mod columns;
 pub mod extents;
 pub mod place;
@@ -8,14 +8,13 @@ pub mod sets;
 ghost use mathlib.Core.Path.{_≡_};
 ghost use Prim.Native.Nat.{ℕ, _≤_, _<_};
 ghost use lib.ListN.{length, getD};
-ghost use Rattle.standard.specs.Check.{refusedFile, mapped, beforeIndex, Given};
+ghost use Rattle.standard.specs.Check.{refusedFile, mapped, beforeIndex};
 ghost use Rattle.buckets.specs.Area.{Area};
 ghost use Rattle.standard_rules.specs.Index.{noSet, indexTextOf};
 ghost use Rattle.standard_index.specs.Bounds.{SetInside};
-ghost use Rattle.standard_rules.specs.Map.{fits, setsFrom, mapWith};
+ghost use Rattle.standard_rules.specs.Map.{fits, setsFrom, mapFrom};
 ghost use Rattle.standard.specs.Columns.{columnsBy};
-ghost use Rattle.standard_rules.specs.Check.{padded, checkedAs};
-ghost use Rattle.table_rules.specs.declared.Description.{Description};
+ghost use Rattle.standard_rules.specs.Check.{padded, checkedWith};
 ghost use Rattle.standard_rules.specs.Header.{headerAt};
 use standard_rules::Checked;
 use standard_rules::Header;
@@ -51,7 +50,7 @@ fn check_map(
     requires { ⌜ Area (now f) (h .size) (h .count) ⌝ }
     requires { ⌜ (n ≤ 64) × (h .sets ≤ 16) × ((k : ℕ) → k < h .sets → SetInside (length (now text)) 4 (getD sets k noSet)) ⌝ }
     requires { ⌜ ((i : ℕ) → i < n → getD (now offsets) i 0 < 4294967296) × ((i : ℕ) → i < n → getD (now bits) i 0 < 4294967296) ⌝ }
-    ensures { λ r. ⌜ r ≡ mapped (fits (mapWith rows (columnsBy (now (kept .entry)) (now (owners .entry)) (now (offsets .entry)) (now (bits .entry)) n 0) (now (f .entry)) h (setsFrom (now (text .entry)) sets (h .sets) 0))) (h .size) (getD sets k noSet) ⌝ }
+    ensures { λ r. ⌜ r ≡ mapped (fits (mapFrom rows (columnsBy (now (kept .entry)) (now (owners .entry)) (now (offsets .entry)) (now (bits .entry)) n 0) (now (f .entry)) h (setsFrom (now (text .entry)) sets (h .sets) 0))) (h .size) (getD sets k noSet) ⌝ }
 {
     let m = h.sets;
     let size = h.size;
@@ -146,7 +145,7 @@ pub fn check(
 ) -> Checked
     requires { ⌜ n ≤ 64 ⌝ }
     requires { ⌜ ((i : ℕ) → i < n → getD (now offsets) i 0 < 4294967296) × ((i : ℕ) → i < n → getD (now bits) i 0 < 4294967296) ⌝ }
-    ensures { λ r. ⌜ ((d : Description) (sequence : ℕ) → Given d sequence rows big (columnsBy (now (kept .entry)) (now (owners .entry)) (now (offsets .entry)) (now (bits .entry)) n 0) → r ≡ checkedAs d sequence (now (f .entry)) refused k (length (now (room .entry)))) × (r .refused ≡ 0 → now (room .exit) ≡ padded (length (now (room .entry))) (indexTextOf (now (f .entry)) (headerAt (now (f .entry)) big))) ⌝ }
+    ensures { λ r. ⌜ (r ≡ checkedWith rows big (columnsBy (now (kept .entry)) (now (owners .entry)) (now (offsets .entry)) (now (bits .entry)) n 0) (now (f .entry)) refused k (length (now (room .entry)))) × (r .refused ≡ 0 → now (room .exit) ≡ padded (length (now (room .entry))) (indexTextOf (now (f .entry)) (headerAt (now (f .entry)) big))) ⌝ }
 {
     let h = standard_index::header::read_header(f, big);
     let first = before_index(refused, h, f.len(), room.len());

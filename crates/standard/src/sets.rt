@@ -4,7 +4,9 @@ ghost use Prim.Native.Nat.{ℕ, _+_, _*_, _≤_, _<_};
 ghost use lib.ListN.{length, getD};
 ghost use mathlib.Core.Path.{_≡_};
 ghost use mathlib.Core.Bool.{true};
-ghost use Rattle.standard.specs.Sets.{rowsFit, dataBy, apartOf};
+ghost use mathlib.Core.List.{_++_};
+ghost use Rattle.bytes_at.specs.Lists.{allApart};
+ghost use Rattle.standard.specs.Sets.{rowsFit, dataBy};
 ghost use Rattle.buckets.specs.Marks.{allUnmarked, marked};
 ghost use Rattle.buckets.specs.Area.{Area};
 ghost use Rattle.standard_rules.specs.Index.{links};
@@ -82,7 +84,7 @@ pub fn buckets_apart(
 ) -> bool
     requires { ⌜ Area (now f) size nb ⌝ }
     requires { ⌜ (m ≤ 16) × ((k : ℕ) → k < m → getD (now buckets) k 0 + getD (now entries) k 0 * 4 ≤ length (now text)) ⌝ }
-    ensures { λ r. ⌜ r ≡ apartOf nb (dataBy (now (text .entry)) (now (entries .entry)) (now (buckets .entry)) m 0) (links (now (f .entry)) size ik ib) (links (now (f .entry)) size fk fb) ⌝ }
+    ensures { λ r. ⌜ r ≡ allApart nb (dataBy (now (text .entry)) (now (entries .entry)) (now (buckets .entry)) m 0 ++ (links (now (f .entry)) size ik ib ++ links (now (f .entry)) size fk fb)) ⌝ }
 {
     let mut seen = [0u8; 4096];
     if !mark_sets(&mut seen, nb, text, entries, buckets, m) {

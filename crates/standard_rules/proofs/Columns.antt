@@ -11,7 +11,7 @@ use Rattle.table_rules.specs.ColumnDesc.{noColumn}
 use Rattle.table_rules.specs.declared.Binding.{Binding}
 use Rattle.table_rules.specs.ColumnSet.{noBinding}
 use Rattle.table_rules.specs.declared.Description.{Description}
-use Rattle.standard_rules.specs.Map.{noMapColumn, columnAt, Kept, mapColumn, columnsFrom, mapOf}
+use Rattle.standard_rules.specs.Map.{noMapColumn, columnAt, Kept, mapColumn, columnsFrom, mapWith, mapOf}
 use Rattle.table_rules.specs.Table.{bindingIn}
 
 module _ (sequence : ℕ) (cs : List Column) (bs : List Binding) where
@@ -34,7 +34,7 @@ module _ (sequence : ℕ) (cs : List Column) (bs : List Binding) where
 -- a column that carries the sequence number is kept in the file
 pub column-kept : (d : Description) (sequence : ℕ) (f : List ℕ) (c : ℕ) → c < d .«column_count» → bindingIn d c .sequence ≡ sequence
     → Kept (mapOf d sequence f) c
-unfolding mapOf
+unfolding mapWith
 column-kept d sequence f c h e =
     record {
       known = omega (arith, columns-length sequence (d .columns) (d .bindings) (d .«column_count») 0);
@@ -47,7 +47,7 @@ column-kept d sequence f c h e =
 -- the map's column is the table's
 pub column-same : (d : Description) (sequence : ℕ) (f : List ℕ) (c : ℕ) → c < d .«column_count»
     → columnAt (mapOf d sequence f) c ≡ mapColumn sequence (getD (d .columns) c noColumn) (bindingIn d c)
-unfolding mapOf
+unfolding mapWith
 column-same d sequence f c h = columns-at sequence (d .columns) (d .bindings) (d .«column_count») 0 c h ∙ from-zero (0 + c) (omega arith)
   where
     from-zero : (k : ℕ) → k ≡ c → mapColumn sequence (getD (d .columns) k noColumn) (bindingIn d k) ≡ mapColumn sequence (getD (d .columns) c noColumn) (bindingIn d c)
@@ -55,5 +55,5 @@ column-same d sequence f c h = columns-at sequence (d .columns) (d .bindings) (d
 
 -- the rows of a map are the table's
 pub map-rows : (d : Description) (sequence : ℕ) (f : List ℕ) → mapOf d sequence f .rows ≡ d .rows
-unfolding mapOf
+unfolding mapWith
 map-rows d sequence f = refl

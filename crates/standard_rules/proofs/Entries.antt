@@ -1,14 +1,16 @@
 -- The entries of a set: what `entryOf` finds, and what `covers` says of the last rows.
 -- Assumes nothing.
 use mathlib.Core.Path.{_≡_, refl, sym, _∙_}
+use mathlib.Core.Bool.{_&&_}
 use mathlib.Core.List.{List, [], _∷_}
 use Prim.Native.Nat.{ℕ, zero, suc, _+_, _≤_, _<_}
 use native.Mathlib.Decide.{decLe}
 use native.Mathlib.Omega.{arith}
 use lib.ListN.{length, getD}
-use lib.Dec.{T, leb→le, eqb→eq}
+use lib.Dec.{T, leb, leb→le, le→leb, eqb→eq, eqb-refl}
 use borrow.Author.Tests.{le-leb, lt-leb}
 use store.Enc.{and-l, and-r}
+use Rattle.bytes_at.proofs.Tests.{both}
 use Rattle.standard_rules.specs.Place.{entryOf}
 use Rattle.standard_rules.specs.Map.{firstRowFrom, firstRowOf, covers}
 
@@ -92,3 +94,15 @@ unfolding covers
 covers-end rows per from [] t = eqb→eq from rows t
 covers-end rows per from (l ∷ ls) t =
     sym (start-cons l ls (length ls)) ∙ covers-end rows per (l + 1) ls (search (and-l, and-r))
+
+-- the other way round
+pub covers-yes : (rows per from : ℕ) (lasts : List ℕ) → ((e : ℕ) → e < length lasts → Spans per from lasts e)
+    → firstRowFrom from lasts (length lasts) ≡ rows → T (covers rows per from lasts)
+unfolding covers
+covers-yes rows per from [] s q = rw q (eqb-refl rows)
+covers-yes rows per from (l ∷ ls) s q =
+    let z = s 0 (omega arith) in
+    both (leb from l && leb (l + 1) (from + per)) (covers rows per (l + 1) ls)
+    (both (leb from l) (leb (l + 1) (from + per)) (le→leb from l (z .low)) (le→leb (l + 1) (from + per) (z .high)))
+    (covers-yes rows per (l + 1) ls (λ e h. let r = s (suc e) (omega arith) in
+    record { low = omega (arith, r, start-cons l ls e); high = omega (arith, r, start-cons l ls e) }) (start-cons l ls (length ls) ∙ q))

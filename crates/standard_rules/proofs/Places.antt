@@ -1,7 +1,7 @@
 -- Demand 3 of any map that is accepted.
 -- Assumes nothing.
-use mathlib.Core.Path.{_≡_, ap, sym}
-use Prim.Native.Nat.{ℕ, _+_, _-_, _*_, _/_, _≤_, _<_}
+use mathlib.Core.Path.{_≡_, ap}
+use Prim.Native.Nat.{ℕ, _+_, _*_, _≤_, _<_}
 use native.Mathlib.Nat.{mul-le-mul-right}
 use native.Mathlib.Decide.{ℕ-discrete, decLt}
 use native.Mathlib.Omega.{arith}
@@ -77,12 +77,12 @@ module _ (m : Map) (a : Accepted m) where
       ]
 
   -- two columns of one set in one bucket
-  columns-apart : (row row′ c d : ℕ) → Cell row c → Cell row′ d → c < d → Kept m c → Kept m d
+  columns-apart : (row row′ c d : ℕ) → Cell row c → Cell row′ d → (c ≡ d → ⊥) → Kept m c → Kept m d
       → columnAt m c .set ≡ columnAt m d .set → bucketIn m row c ≡ bucketIn m row′ d → Apart (placeOf m row c) (placeOf m row′ d)
   columns-apart row row′ c d x y l i j s e b p q p′ q′ =
       let z = bucketIn m row c * m .size in
       let same : z ≡ bucketIn m row′ d * m .size = ap (λ (i : ℕ). i * m .size) e in
-      a .extents-apart c d l i j s (b / 8 - (512 + z)) (omega arith) (omega (arith, x .ends)) (omega arith) (omega (arith, y .ends))
+      a .extents-apart c d l i j s (record { one = omega (arith, y .ends); other = omega (arith, x .ends) })
 
   apart : (row c row′ c′ : ℕ) → Cell row c → Cell row′ c′ → Kept m c → Kept m c′ → Differ row c row′ c′
       → Apart (placeOf m row c) (placeOf m row′ c′)
@@ -95,10 +95,7 @@ module _ (m : Map) (a : Accepted m) where
           → Apart (placeOf m row c) (placeOf m row′ c′)
       shared e (s, f) = elim (ℕ-discrete c c′) [
         | yes q ↦ rw q (rows-apart row row′ c′ (rw q at x) y (rw q at f) (λ r. n r q))
-        | no q ↦ elim (decLt c c′) [
-          | yes l ↦ columns-apart row row′ c c′ x y l k k′ s e
-          | no l ↦ λ b i j i′ j′. columns-apart row′ row c′ c y x (omega arith) k′ k (sym s) (sym e) b i′ j′ i j
-        ]
+        | no q ↦ columns-apart row row′ c c′ x y q k k′ s e
       ]
 
   demand3 : (row c row′ c′ : ℕ) → row < m .rows → Kept m c → row′ < m .rows → Kept m c′ → Demand3 m (placeOf m row c) (placeOf m row′ c′) row c row′ c′

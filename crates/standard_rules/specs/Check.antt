@@ -7,7 +7,7 @@ use lib.ListN.{length, getD, replicate}
 use Rattle.bytes_at.specs.Stages.{_▷_, orNo}
 use Rattle.table_rules.specs.declared.Description.{Description}
 use Rattle.standard_rules.specs.Index.{indexOk, freeOk, indexAt, indexTextOf, noSet}
-use Rattle.standard_rules.specs.Map.{fits, mapOf}
+use Rattle.standard_rules.specs.Map.{MapColumn, fits, mapWith, columnsOf}
 use Rattle.standard_rules.specs.Header.{headerAt}
 use Rattle.standard_rules.specs.declared.Checked.{Checked}
 
@@ -15,11 +15,11 @@ use Rattle.standard_rules.specs.declared.Checked.{Checked}
 abbrev pub longEnough : ℕ → ℕ → ℕ → Bool
 longEnough len size count = leb (512 + count * size) len
 
--- "Order after the header: file length (1), room (13), index chain, text, free chain, map." `refused` is the refusal so far,
--- and l the length of the lent room.
-unfoldable pub refusalOf : Description → ℕ → List ℕ → ℕ → ℕ → ℕ
-refusalOf d sequence f refused l =
-    let h = headerAt f (d .big) in
+-- "Order after the header: file length (1), room (13), index chain, text, free chain, map." Of a table of so many rows, of this
+-- endianness and these columns; `refused` is the refusal so far, and l the length of the lent room.
+unfoldable pub refusalWith : ℕ → Bool → List MapColumn → List ℕ → ℕ → ℕ → ℕ
+refusalWith rows big columns f refused l =
+    let h = headerAt f big in
     let text = indexTextOf f h in
     refused
     ▷ h .refused
@@ -28,16 +28,23 @@ refusalOf d sequence f refused l =
     ▷ orNo (indexOk f (h .size) (h .count) (h .«index_count») (h .«first_index») (h .offset) (h .length)) 10
     ▷ indexAt text (h .sets) .refused
     ▷ orNo (freeOk f (h .size) (h .count) (h .«free_count») (h .«first_free»)) 10
-    ▷ orNo (fits (mapOf d sequence f)) 11
+    ▷ orNo (fits (mapWith rows big columns f)) 11
 
 -- What the check tells, where set k is asked for; "A refusal carries its number and zeros".
-unfoldable pub checkedAs : Description → ℕ → List ℕ → ℕ → ℕ → ℕ → Checked
-checkedAs d sequence f refused k l =
-    let h = headerAt f (d .big) in
-    let number = refusalOf d sequence f refused l in
+unfoldable pub checkedWith : ℕ → Bool → List MapColumn → List ℕ → ℕ → ℕ → ℕ → Checked
+checkedWith rows big columns f refused k l =
+    let h = headerAt f big in
+    let number = refusalWith rows big columns f refused l in
     cond (eqb number 0)
     (record { refused = 0; size = h .size; set = getD (indexAt (indexTextOf f h) (h .sets) .sets) k noSet })
     (record { refused = number; size = 0; set = noSet })
+
+-- Both of a described table, in the file whose manager has the sequence number.
+abbrev pub refusalOf : Description → ℕ → List ℕ → ℕ → ℕ → ℕ
+refusalOf d sequence f refused l = refusalWith (d .rows) (d .big) (columnsOf d sequence) f refused l
+
+abbrev pub checkedAs : Description → ℕ → List ℕ → ℕ → ℕ → ℕ → Checked
+checkedAs d sequence f refused k l = checkedWith (d .rows) (d .big) (columnsOf d sequence) f refused k l
 
 -- a room of l bytes that holds the text, "then zeros"
 unfoldable pub padded : ℕ → List ℕ → List ℕ

@@ -15,7 +15,7 @@ use Rattle.table_rules.specs.ColumnSet.{noBinding}
 use Rattle.table_rules.specs.declared.Description.{Description}
 use Rattle.standard_rules.specs.declared.Header.{Header}
 use Rattle.standard_rules.specs.Header.{headerAt}
-use Rattle.bytes_at.specs.Lists.{_⇒_, all, allFrom, pairs, below, unlike}
+use Rattle.bytes_at.specs.Lists.{_⇒_, all, allFrom, pairs, allApart}
 
 -- "one SSMIndex per set": its rows per bucket, its column count, and for each entry the last row and the bucket number
 pub record MapSet : Type 0 where
@@ -92,9 +92,9 @@ columnsFrom sequence cs bs (suc n) i =
 abbrev pub columnsOf : Description → ℕ → List MapColumn
 columnsOf d sequence = columnsFrom sequence (d .columns) (d .bindings) (d .«column_count») 0
 
--- what the bytes say of rows, buckets and columns, whether that is accepted or not
-abbrev pub mapWith : ℕ → List MapColumn → List ℕ → Header → List MapSet → Map
-mapWith rows columns f h sets = record {
+-- the map of a file with this header and these sets, for a table of so many rows and these columns
+abbrev pub mapFrom : ℕ → List MapColumn → List ℕ → Header → List MapSet → Map
+mapFrom rows columns f h sets = record {
   size = h .size;
   count = h .count;
   rows = rows;
@@ -104,11 +104,17 @@ mapWith rows columns f h sets = record {
   free = links f (h .size) (h .«free_count») (h .«first_free»);
 }
 
-unfoldable pub mapOf : Description → ℕ → List ℕ → Map
-mapOf d sequence f =
-    let h = headerAt f (d .big) in
+-- what the bytes say of rows, buckets and columns, whether that is accepted or not, for a table of so many rows, of this
+-- endianness and these columns
+unfoldable pub mapWith : ℕ → Bool → List MapColumn → List ℕ → Map
+mapWith rows big columns f =
+    let h = headerAt f big in
     let text = indexTextOf f h in
-    mapWith (d .rows) (columnsOf d sequence) f h (setsFrom text (indexAt text (h .sets) .sets) (h .sets) 0)
+    mapFrom rows columns f h (setsFrom text (indexAt text (h .sets) .sets) (h .sets) 0)
+
+-- the same of a described table, in the file whose manager has the sequence number
+abbrev pub mapOf : Description → ℕ → List ℕ → Map
+mapOf d sequence f = mapWith (d .rows) (d .big) (columnsOf d sequence) f
 
 -- When that is right: one test, whose lines are the paragraph's.
 
@@ -145,9 +151,6 @@ pub record Extent : Type 0 where
   pub start : ℕ
   pub end : ℕ
 
-abbrev pub noExtent : Extent
-noExtent = record { kept = false; set = 0; start = 0; end = 0 }
-
 -- "offset + ceiling(rows per bucket x cell bits / 8)"
 abbrev pub extentEnd : ℕ → ℕ → ℕ → ℕ
 extentEnd offset rowsPer bits = offset + ceil8 (rowsPer * bits)
@@ -164,7 +167,8 @@ extents m = map (extentOf m) (m .columns)
 unfoldable pub inBucket : ℕ → Extent → Bool
 inBucket size x = x .kept ⇒ leb (x .end) size
 
--- "meets no other of its set": one ends where the other starts, or before
+-- "meets no other of its set": one ends where the other starts, or before. Two extents that hold a byte, as the table's do, meet
+-- where they have a byte in common.
 unfoldable pub clear : Extent → Extent → Bool
 clear x y = x .kept && y .kept && eqb (x .set) (y .set) ⇒ leb (x .end) (y .start) || leb (y .end) (x .start)
 
@@ -173,7 +177,7 @@ unfoldable pub dataOf : List MapSet → List ℕ
 dataOf [] = []
 dataOf (s ∷ ss) = s .buckets ++ dataOf ss
 
--- "Data buckets of all sets, index buckets and free buckets"
+-- "Data buckets of all sets, index buckets and free buckets", which "are in range and all different"
 abbrev pub used : Map → List ℕ
 used m = dataOf (m .sets) ++ (m .index ++ m .free)
 
@@ -184,8 +188,7 @@ fits m =
     && all (setKnown (length (m .sets))) (m .columns)
     && all (inBucket (m .size)) (extents m)
     && pairs clear (extents m)
-    && all (below (m .count)) (used m)
-    && pairs unlike (used m)
+    && allApart (m .count) (used m)
 
 -- an entry's first row: one past the preceding entry's last row, and `from` before the first
 abbrev pub firstRowFrom : ℕ → List ℕ → ℕ → ℕ
@@ -195,30 +198,53 @@ firstRowFrom from lasts (suc e) = getD lasts e 0 + 1
 abbrev pub firstRowOf : List ℕ → ℕ → ℕ
 firstRowOf lasts e = firstRowFrom 0 lasts e
 
--- The paragraph "Map" as facts, one for each of its sentences.
+-- the last row and the bucket number of entry e of set k
+abbrev pub lastAt : Map → ℕ → ℕ → ℕ
+lastAt m k e = getD (setAt m k .lasts) e 0
+
+abbrev pub bucketAt : Map → ℕ → ℕ → ℕ
+bucketAt m k e = getD (setAt m k .buckets) e 0
+
+-- Two extents meet: each starts before the other ends.
+pub record Meet (x y : Extent) : Type 0 where
+  pub one : x .start < y .end
+  pub other : y .start < x .end
+
+-- The paragraph "Map" as facts, in its order.
 pub record Accepted (m : Map) : Type 0 where
-  -- "last rows rise strictly"
-  pub rise : (k e : ℕ) → k < length (m .sets) → suc e < length (setAt m k .lasts) → getD (setAt m k .lasts) e 0 < getD (setAt m k .lasts) (suc e) 0
-  -- "none spans more than rows per bucket"
-  pub span : (k e : ℕ) → k < length (m .sets) → e < length (setAt m k .lasts) → getD (setAt m k .lasts) e 0 + 1 ≤ firstRowOf (setAt m k .lasts) e + setAt m k .rowsPer
-  -- "the last is rows - 1 (no entries for 0 rows)"
-  pub reach : (k : ℕ) → k < length (m .sets) → firstRowOf (setAt m k .lasts) (length (setAt m k .lasts)) ≡ m .rows
-  -- "Both Blocks' lengths equal the entry count"
+  -- of the paragraph "Index": "Both Blocks' lengths equal the entry count"
   pub paired : (k : ℕ) → k < length (m .sets) → length (setAt m k .buckets) ≡ length (setAt m k .lasts)
+  -- "in each set, last rows rise strictly"
+  pub rise : (k e : ℕ) → k < length (m .sets) → suc e < length (setAt m k .lasts) → lastAt m k e < lastAt m k (suc e)
+  -- "none spans more than rows per bucket"
+  pub span : (k e : ℕ) → k < length (m .sets) → e < length (setAt m k .lasts) → lastAt m k e + 1 ≤ firstRowOf (setAt m k .lasts) e + setAt m k .rowsPer
+  -- "the last is rows - 1 (no entries for 0 rows)": the row after the last one, row 0 where there are no entries, is the row count
+  pub reach : (k : ℕ) → k < length (m .sets) → firstRowOf (setAt m k .lasts) (length (setAt m k .lasts)) ≡ m .rows
   -- "the column count agrees with DMInfo"
   pub counted : (k : ℕ) → k < length (m .sets) → boundTo k (m .columns) ≡ setAt m k .columns
   -- "whose set numbers are below the indices' count"
   pub set-known : (c : ℕ) → Kept m c → columnAt m c .set < length (m .sets)
-  -- "each column's extent lies in the bucket"
+  -- "each column's extent, offset to offset + ceiling(rows per bucket x cell bits / 8), lies in the bucket"
   pub in-bucket : (c : ℕ) → Kept m c → extentOf m (columnAt m c) .end ≤ m .size
   -- "and meets no other of its set"
-  pub extents-apart : (c d : ℕ) → c < d → Kept m c → Kept m d → columnAt m c .set ≡ columnAt m d .set
-      → (b : ℕ) → columnAt m c .offset ≤ b → b < extentOf m (columnAt m c) .end → columnAt m d .offset ≤ b → b < extentOf m (columnAt m d) .end → ⊥
-  -- "Data buckets of all sets, index buckets and free buckets are in range and all different"
-  pub data-below : (k e : ℕ) → k < length (m .sets) → e < length (setAt m k .buckets) → getD (setAt m k .buckets) e 0 < m .count
+  pub extents-apart : (c d : ℕ) → (c ≡ d → ⊥) → Kept m c → Kept m d → columnAt m c .set ≡ columnAt m d .set
+      → Meet (extentOf m (columnAt m c)) (extentOf m (columnAt m d)) → ⊥
+  -- "Data buckets of all sets, index buckets and free buckets are in range"
+  pub data-below : (k e : ℕ) → k < length (m .sets) → e < length (setAt m k .buckets) → bucketAt m k e < m .count
+  pub index-below : (i : ℕ) → i < length (m .index) → getD (m .index) i 0 < m .count
+  pub free-below : (i : ℕ) → i < length (m .free) → getD (m .free) i 0 < m .count
+  -- "and all different": those of each kind among themselves
   pub data-apart : (k l e f : ℕ) → k < length (m .sets) → l < length (m .sets) → e < length (setAt m k .buckets) → f < length (setAt m l .buckets)
-      → getD (setAt m k .buckets) e 0 ≡ getD (setAt m l .buckets) f 0 → (k ≡ l) × (e ≡ f)
+      → bucketAt m k e ≡ bucketAt m l f → (k ≡ l) × (e ≡ f)
+  pub index-apart : (i j : ℕ) → i < length (m .index) → j < length (m .index) → getD (m .index) i 0 ≡ getD (m .index) j 0 → i ≡ j
+  pub free-apart : (i j : ℕ) → i < length (m .free) → j < length (m .free) → getD (m .free) i 0 ≡ getD (m .free) j 0 → i ≡ j
+  -- and those of each two kinds
   pub data-index : (k e i : ℕ) → k < length (m .sets) → e < length (setAt m k .buckets) → i < length (m .index)
-      → getD (setAt m k .buckets) e 0 ≡ getD (m .index) i 0 → ⊥
+      → bucketAt m k e ≡ getD (m .index) i 0 → ⊥
   pub data-free : (k e i : ℕ) → k < length (m .sets) → e < length (setAt m k .buckets) → i < length (m .free)
-      → getD (setAt m k .buckets) e 0 ≡ getD (m .free) i 0 → ⊥
+      → bucketAt m k e ≡ getD (m .free) i 0 → ⊥
+  pub index-free : (i j : ℕ) → i < length (m .index) → j < length (m .free) → getD (m .index) i 0 ≡ getD (m .free) j 0 → ⊥
+
+-- The test passes exactly where these facts hold.
+abbrev pub AcceptedExactly : Type 0
+AcceptedExactly = (m : Map) → (T (fits m) → Accepted m) × (Accepted m → T (fits m))

@@ -3,23 +3,20 @@
 -- Assumes nothing.
 use mathlib.Core.Path.{_≡_, sym, _∙_}
 use mathlib.Core.Bool.{Bool, true, false, cond, _&&_}
-use mathlib.Core.List.{List, [], _∷_, _++_, append-assoc}
+use mathlib.Core.List.{List, [], _∷_, _++_}
 use Prim.Native.Nat.{ℕ, _≤_, _<_}
 use native.Mathlib.Decide.{ℕ-discrete}
 use native.Mathlib.Omega.{arith}
 use lib.ListN.{length, getD, set, replicate, length-set, length-replicate, getD-replicate}
 use lib.Seq.{getD-set-same, getD-set-other}
-use lib.Dec.{T, not-T, ltb, eqb, ltb→lt, lt→ltb, eqb→eq}
+use lib.Dec.{T, ltb, eqb, ltb→lt, lt→ltb, eqb→eq}
 use store.Enc.{and-l, and-r}
 use borrow.Author.Tests.{eq-eqb, ne-eqb}
-use Rattle.bytes_at.proofs.Tests.{both, alike, unlike-not}
+use Rattle.bytes_at.proofs.Tests.{both, alike, unlike-not, unlike-yes}
 use Rattle.bytes_at.specs.Lists.{all, pairs, allApart, below, unlike}
 use Rattle.buckets.specs.Marks.{isUnmarked, allUnmarked}
 use Rattle.bytes_at.proofs.MoreTests.{all-any, all-from, all-from-two}
 use Rattle.buckets.proofs.marks.Marking.{Marks, fresh-append}
-
-pub unlike-yes : (a b : ℕ) → (a ≡ b → ⊥) → T (unlike a b)
-unlike-yes a b h = not-T (eqb a b) (λ t. h (eqb→eq a b t))
 
 unlike-swap : (a b : ℕ) → T (unlike a b) → T (unlike b a)
 unlike-swap a b t = unlike-yes b a (λ e. unlike-not a b t (sym e))
@@ -130,9 +127,6 @@ fresh-is nb m xs h =
 module _ (nb m : ℕ) (h : nb ≤ m) where
   pub marks-no : (xs ys : List ℕ) {t : List ℕ} {r : Bool} → Marks nb (replicate m 0) xs t r → r ≡ false → false ≡ allApart nb (xs ++ ys)
   marks-no xs ys v q = sym (sym (fresh-is nb m (xs ++ ys) h) ∙ rw (fresh-append nb (replicate m 0) xs ys, ← v .0, q))
-
-  pub marks-no-two : (xs ys zs : List ℕ) {t : List ℕ} {r : Bool} → Marks nb (replicate m 0) xs t r → r ≡ false → false ≡ allApart nb (xs ++ ys ++ zs)
-  marks-no-two xs ys zs v q = rw append-assoc (marks-no xs (ys ++ zs) v q)
 
   pub marks-all : (xs : List ℕ) {t : List ℕ} {r : Bool} → Marks nb (replicate m 0) xs t r → r ≡ allApart nb xs
   marks-all xs v = v .0 ∙ fresh-is nb m xs h

@@ -16,7 +16,7 @@ use Rattle.table_rules.specs.declared.Binding.{Binding}
 use Rattle.table_rules.specs.declared.Description.{Description}
 use Rattle.table_rules.specs.Table.{describedAs, columnIn, bindingIn}
 use Rattle.standard_rules.specs.Check.{padded, refusalOf, checkedAs}
-use Rattle.standard_rules.specs.Map.{Map, MapColumn, columnAt, setAt, setOf, Kept, covers, mapSet, mapColumn, mapOf}
+use Rattle.standard_rules.specs.Map.{Map, MapColumn, columnAt, setAt, setOf, Kept, covers, mapSet, mapColumn, mapWith, mapOf}
 use Rattle.standard_rules.specs.Place.{Bits, placeOf}
 use Rattle.bytes_at.proofs.Tests.{is-true}
 use Rattle.bytes_at.specs.Number.{numbersAt}
@@ -112,7 +112,7 @@ module _ (t f : List ℕ) (r : Request) (l : ℕ) (z : stagesOf t f r l .refused
   map-set = ap (λ (k : MapColumn). setAt m (k .set)) column-is ∙ set-same d sequence f before l (b .set) listed
 
   covered : T (covers (d .rows) (x .per) 0 (numbersAt true 4 text (x .lasts) (x .entries)))
-  unfolding mapOf
+  unfolding mapWith
   covered = rw (set-same d sequence f before l (b .set) listed) at (set-covered d sequence f before l passes (b .set) listed)
 
   -- what the stages hand over

@@ -10,7 +10,7 @@ use borrow.Author.Tests.{eq-eqb}
 use Rattle.bytes_at.specs.declared.Width.the-variants.{Four}
 use Rattle.bytes_at.proofs.Stages.{then-left, then-right}
 use Rattle.table_rules.specs.declared.Description.{Description}
-use Rattle.standard_rules.specs.Map.{columnAt, setAt, noMapSet, covers, Kept, mapSet, mapOf}
+use Rattle.standard_rules.specs.Map.{columnAt, setAt, noMapSet, covers, Kept, mapSet, mapWith, mapOf}
 use Rattle.standard_rules.proofs.Accepting.{accepted, set-covers}
 use Rattle.standard_rules.specs.Header.{headerAt}
 use Rattle.standard_rules.specs.Index.{noSet, indexAt, indexTextOf}
@@ -19,25 +19,25 @@ use Rattle.standard_index.proofs.text.IndexLaws.{index-inside}
 use Rattle.standard.proofs.Gathering.{sets-length, sets-at}
 use Rattle.standard_index.proofs.header.HeaderLaws.{header-bounds}
 use Rattle.lookup_rules.proofs.Places.{map-fits}
-use Rattle.standard_rules.specs.Check.{refusalOf, checkedAs}
+use Rattle.standard_rules.specs.Check.{refusalWith, checkedWith, refusalOf, checkedAs}
 
 module _ (d : Description) (sequence : ℕ) (f : List ℕ) (refused l : ℕ) where
   index-passed : refusalOf d sequence f refused l ≡ 0 → indexAt (indexTextOf f (headerAt f (d .big))) (headerAt f (d .big) .sets) .refused ≡ 0
-  unfolding refusalOf
+  unfolding refusalWith
   index-passed z = search (then-left, then-right) depth 9
 
   -- the set and the bucket size that the check tells are the file's
   pub set-told : refusalOf d sequence f refused l ≡ 0
       → (k : ℕ) → checkedAs d sequence f refused k l .set ≡ getD (indexAt (indexTextOf f (headerAt f (d .big))) (headerAt f (d .big) .sets) .sets) k noSet
-  unfolding checkedAs
+  unfolding checkedWith
   set-told z k = rw (eq-eqb (refusalOf d sequence f refused l) 0 z)
 
   pub size-told : refusalOf d sequence f refused l ≡ 0 → (k : ℕ) → checkedAs d sequence f refused k l .size ≡ mapOf d sequence f .size
-  unfolding checkedAs mapOf
+  unfolding checkedWith mapWith
   size-told z k = rw (eq-eqb (refusalOf d sequence f refused l) 0 z)
 
   map-sets : length (mapOf d sequence f .sets) ≡ headerAt f (d .big) .sets
-  unfolding mapOf
+  unfolding mapWith
   map-sets = sets-length _ _ _ 0
 
   -- the set of a column that is kept is one of them
@@ -47,7 +47,7 @@ module _ (d : Description) (sequence : ℕ) (f : List ℕ) (refused l : ℕ) whe
   -- the map's set is the text's
   pub set-same : (k : ℕ) → k < headerAt f (d .big) .sets
       → setAt (mapOf d sequence f) k ≡ mapSet (indexTextOf f (headerAt f (d .big))) (getD (indexAt (indexTextOf f (headerAt f (d .big))) (headerAt f (d .big) .sets) .sets) k noSet)
-  unfolding mapOf
+  unfolding mapWith
   set-same k h = sets-at _ _ noMapSet _ k h
 
   -- and its last rows cover the table's rows
@@ -61,5 +61,5 @@ module _ (d : Description) (sequence : ℕ) (f : List ℕ) (refused l : ℕ) whe
   set-inside z k h = index-inside _ true Four _ (header-bounds f true (d .big) .sets-most) (index-passed z) k h
 
   pub size-most : mapOf d sequence f .size ≤ 1048576
-  unfolding mapOf
+  unfolding mapWith
   size-most = header-bounds f true (d .big) .size-most

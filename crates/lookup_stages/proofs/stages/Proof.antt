@@ -6,7 +6,7 @@ use mathlib.Core.Path.{_∙_}
 use Rattle.bytes_at.proofs.Stepped.{free}
 use Rattle.table_rules.specs.ColumnDesc.{noColumn}
 use Rattle.table_rules.specs.ColumnSet.{noBinding}
-use Rattle.lookup_stages.proofs.Gathering.{Gathering, gathering-start, gathering-again, offsets-low, bits-low, given}
+use Rattle.lookup_stages.proofs.Gathering.{Gathering, gathering-start, gathering-again, offsets-low, bits-low, gathered}
 use Rattle.lookup_stages.proofs.Laws.{passed, same-kind, target-found, stages-there, stages-here, no-text, room-text}
 use Rattle.lookup_stages.proofs.stages.Statement.{statement}
 use Rattle.lookup_stages.proofs.stages.Tie as tie
@@ -44,9 +44,9 @@ unfolding noColumn noBinding
 returns-2 c =
     let e = c .before .before .before .before .before .before .before .before .before .before .before .before .before .before .before .before .before .before .before .before .before .before .describe .ensures .0 in
     let g = target-found _ _ e (c .before .before .before .before .before .before .before .before .before .before .before .before .before .before .before .before .before .before .before .before .before .place-of .ensures .1) (c .before .before .before .before .before .before .before .before .before .before .before .before .before .before .before .before .before .before .column-if .ensures) (c .before .before .before .before .before .before .before .before .before .before .before .before .before .before .before .before .before .binding-if .ensures) (c .before .before .before .before .before .before .before .before .before .before .before .before .before .before .before .find-target .ensures) in
-    let m = c .before .before .before .before .check2 .ensures .0 _ _ (given _ _ (c .before .before .before .before .before .before .before .before .before .before .before .before .before .loop .inv) (c .before .before .before .before .before .before .before .before .before .before .before .before .loop-test .left)) in (
+    let cs = gathered _ _ _ (c .before .before .before .before .before .before .before .before .before .before .before .before .before .loop .inv) (c .before .before .before .before .before .before .before .before .before .before .before .before .loop-test .left) in (
       (
-        stages-here _ _ _ _ e g (c .before .before .before .before .before .before .before .before .before .before .before .before .before .before .if1 .left) m (c .finish2 .ensures .0),
+        stages-here _ _ _ _ e g (c .before .before .before .before .before .before .before .before .before .before .before .before .before .before .if1 .left) cs (c .before .before .before .before .check2 .ensures .0) (c .finish2 .ensures .0),
         λ z k. room-text _ _ _ e (c .before .before .before .before .check2 .ensures .1 (passed _ _ _ _ (c .finish2 .ensures .0) z)),
       ),
       c .finish2 .ensures .1,

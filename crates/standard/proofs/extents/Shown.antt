@@ -8,7 +8,7 @@ use native.Mathlib.Omega.{arith}
 use lib.ListN.{length, getD, length-map, List·getD-map}
 use lib.Dec.{T}
 use Rattle.bytes_at.specs.Lists.{all, pairs}
-use Rattle.standard_rules.specs.Map.{Map, noMapColumn, columnAt, Extent, noExtent, extentOf, extents, inBucket, clear}
+use Rattle.standard_rules.specs.Map.{Map, noMapColumn, columnAt, Extent, extentOf, extents, inBucket, clear}
 use Rattle.bytes_at.proofs.Tests.{all-same, pairs-same}
 use Rattle.standard.specs.Columns.{extentAt, extentsFrom}
 
@@ -39,6 +39,9 @@ inside-alike size {x} {x′} u = go (x′ .kept) refl
     go true p = rw (u .same (rw p tt))
 
 -- ---- the extents by position
+abbrev noExtent : Extent
+noExtent = record { kept = false; set = 0; start = 0; end = 0 }
+
 module _ (kept : List Bool) (sets starts ends : List ℕ) where
   from-length : (i k : ℕ) → length (extentsFrom kept sets starts ends i k) ≡ k
   unfolding extentsFrom

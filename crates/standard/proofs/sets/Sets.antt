@@ -8,10 +8,10 @@ use native.Mathlib.Numerals.{add-one, sub-one}
 use lib.ListN.{getD, replicate}
 use Rattle.standard_rules.specs.Map.{covers}
 use Rattle.bytes_at.specs.Lists.{allApart}
-use Rattle.buckets.proofs.marks.Decided.{marks-no, marks-no-two, marks-all}
+use Rattle.buckets.proofs.marks.Decided.{marks-no, marks-all}
 use Rattle.buckets.proofs.marks.Marking.{Marks, marks-then}
 use Rattle.bytes_at.specs.Number.{numbersAt}
-use Rattle.standard.specs.Sets.{apartOf, rowsFit, dataBy}
+use Rattle.standard.specs.Sets.{rowsFit, dataBy}
 
 module _ (rows : ℕ) (text entries pers lasts : List ℕ) where
   pub fit-none : (m k : ℕ) → m ≤ 0 → rowsFit rows text entries pers lasts m k ≡ true
@@ -47,15 +47,14 @@ module _ (text entries buckets : List ℕ) where
 
 -- the marks of three lists, one after the other, decide the rule
 module _ (nb : ℕ) (h : nb ≤ 4096) (xs ys zs : List ℕ) where
-  whole : {r : Bool} → r ≡ allApart nb (xs ++ ys ++ zs) → r ≡ apartOf nb xs ys zs
-  unfolding allApart apartOf
+  whole : {r : Bool} → r ≡ allApart nb (xs ++ ys ++ zs) → r ≡ allApart nb (xs ++ (ys ++ zs))
   whole e = e ∙ rw (append-assoc xs ys zs)
 
-  pub apart-first : {t : List ℕ} {r : Bool} → Marks nb (replicate 4096 0) xs t r → r ≡ false → false ≡ apartOf nb xs ys zs
-  apart-first v q = whole (marks-no-two nb 4096 h xs ys zs v q)
+  pub apart-first : {t : List ℕ} {r : Bool} → Marks nb (replicate 4096 0) xs t r → r ≡ false → false ≡ allApart nb (xs ++ (ys ++ zs))
+  apart-first v q = marks-no nb 4096 h xs (ys ++ zs) v q
 
-  pub apart-second : {t t₂ : List ℕ} {r r₂ : Bool} → Marks nb (replicate 4096 0) xs t r → r ≡ true → Marks nb t ys t₂ r₂ → r₂ ≡ false → false ≡ apartOf nb xs ys zs
+  pub apart-second : {t t₂ : List ℕ} {r r₂ : Bool} → Marks nb (replicate 4096 0) xs t r → r ≡ true → Marks nb t ys t₂ r₂ → r₂ ≡ false → false ≡ allApart nb (xs ++ (ys ++ zs))
   apart-second v q w q₂ = whole (marks-no nb 4096 h (xs ++ ys) zs (marks-then nb _ xs ys v q w) q₂)
 
-  pub apart-third : {t t₂ t₃ : List ℕ} {r r₂ r₃ : Bool} → Marks nb (replicate 4096 0) xs t r → r ≡ true → Marks nb t ys t₂ r₂ → r₂ ≡ true → Marks nb t₂ zs t₃ r₃ → r₃ ≡ apartOf nb xs ys zs
+  pub apart-third : {t t₂ t₃ : List ℕ} {r r₂ r₃ : Bool} → Marks nb (replicate 4096 0) xs t r → r ≡ true → Marks nb t ys t₂ r₂ → r₂ ≡ true → Marks nb t₂ zs t₃ r₃ → r₃ ≡ allApart nb (xs ++ (ys ++ zs))
   apart-third v q w q₂ u = whole (marks-all nb 4096 h (xs ++ ys ++ zs) (marks-then nb _ (xs ++ ys) zs (marks-then nb _ xs ys v q w) q₂ u))
