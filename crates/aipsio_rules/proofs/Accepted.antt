@@ -6,18 +6,16 @@ use mathlib.Core.Bool.{Bool, true, false, cond, _&&_, and-eq-true-iff}
 use Prim.Native.Nat.{ℕ, suc, _+_, _*_, _/_, _≤_}
 use native.Mathlib.Omega.{arith}
 use native.Mathlib.Nat.{mul-le-mul-right, div-mul-le-self}
-use lib.ListN.{take, drop}
-use lib.Dec.{leb, eqb}
+use lib.Dec.{leb}
 use borrow.Author.Tests.{leb-true, eq-eqb}
 use Rattle.bytes_at.specs.Number.{uintOf}
-use Rattle.bytes_at.specs.Bytes.{sameBytes}
 use Rattle.bytes_at.specs.Steps.{_>>=_}
 use Rattle.aipsio_rules.specs.declared.Cursor.{Cursor}
 use Rattle.aipsio_rules.specs.declared.Value.{Value}
-use Rattle.aipsio_rules.specs.Field.{latched, refusedAt, movedTo, leftIn, skipped, skippedEach, judged, settled, sizedAt, uintAt, rangedAt, agreed, textAt, stringAt, nameAt}
-use Rattle.aipsio_rules.proofs.Kept.{Clean, Refused, clean-before, latched-keeps, text-next}
-use Rattle.aipsio_rules.proofs.Sides.{settle-on, judge-on, skip-on, each-on}
-use Rattle.aipsio_rules.proofs.Ways.{sized-on, any-string-on, text-again}
+use Rattle.aipsio_rules.specs.Field.{latched, refusedAt, movedTo, leftIn, skipped, skippedEach, judged, settled, sizedAt, uintAt, rangedAt, agreed}
+use Rattle.aipsio_rules.proofs.Kept.{Clean, Refused, clean-before, latched-keeps}
+use Rattle.aipsio_rules.proofs.Sides.{settle-on, judge-on, each-on}
+use Rattle.aipsio_rules.proofs.Ways.{sized-on}
 
 pub latched-clean : (c d : Cursor) → Clean (latched c d) → (Clean c) × (Clean d)
 latched-clean c d e =
@@ -58,9 +56,6 @@ module _ (c : Cursor) (n : ℕ) (e : Clean (skipped c n)) where
   skipped-fits =
       let l = latched-clean c _ e in
       (l .0, leb-true n (leftIn c) (passed-test (leb n (leftIn c)) _ (refusedAt c (c .at) 1) (not-zero 0) (l .1) .0))
-
-  pub skipped-is : skipped c n ≡ movedTo c (c .at + n)
-  skipped-is = sym (skip-on c (skipped-fits .0) refl n (skipped-fits .1))
 
 -- the bytes of all n fields are there
 module _ (c : Cursor) (n size : ℕ) (e : Clean (skippedEach c n size)) where
@@ -106,37 +101,3 @@ unfolding agreed _>>=_
 agreed-is s c n e =
     let r = ranged-is s c 4 n n 5 e in
     ap (λ (v : Value). v .next) (r ∙ sized-is s c 4 (rw r at e))
-
--- a String's bytes are there
-module _ (s : List ℕ) (c : Cursor) where
-  text-fits : Clean (textAt s c .next) → (Clean c) × (4 + uintOf (c .big) 4 s (c .at) ≤ leftIn c)
-  unfolding textAt _>>=_
-  text-fits e = skipped-fits c _ (rw text-next at e)
-
-  pub text-is : Clean (textAt s c .next)
-      → textAt s c ≡ record { start = c .at + 4; len = uintOf (c .big) 4 s (c .at); next = movedTo c (c .at + (4 + uintOf (c .big) 4 s (c .at))) }
-  text-is e = let f = text-fits e in sym (any-string-on s c (f .0) refl refl (f .1))
-
-  module _ (low high : ℕ) (e : Clean (stringAt s c low high .next)) where
-    string-clean : Clean (judged (textAt s c .next) (c .at) (leb low (textAt s c .len) && leb (textAt s c .len) high) 4)
-    unfolding stringAt _>>=_
-    string-clean = rw text-next at e
-
-    pub string-is : stringAt s c low high ≡ textAt s c
-    unfolding stringAt _>>=_
-    string-is =
-        let t = textAt s c in
-        let p = judged-is (t .next) (c .at) _ 3 string-clean in
-        rw p (sym (text-again s c refl))
-
-    pub string-within : (low ≤ stringAt s c low high .len) × (stringAt s c low high .len ≤ high)
-    string-within = rw string-is (judged-within (textAt s c .next) (c .at) (textAt s c .len) low high 3 string-clean)
-
-  module _ (expected : List ℕ) (e : Clean (nameAt s c expected)) where
-    pub name-is : nameAt s c expected ≡ textAt s c .next
-    unfolding nameAt _>>=_
-    name-is = judged-is (textAt s c .next) (c .at) _ 1 e
-
-    pub name-same : sameBytes (take (textAt s c .len) (drop (textAt s c .start) s)) expected ≡ true
-    unfolding nameAt _>>=_
-    name-same = judged-passed (textAt s c .next) (c .at) _ 1 e .1

@@ -13,7 +13,7 @@ use Rattle.bytes_at.specs.Steps.{after, _>>=_}
 use Rattle.aipsio_rules.specs.declared.Cursor.{Cursor}
 use Rattle.aipsio_rules.specs.declared.Value.{Value}
 use Rattle.aipsio_rules.specs.declared.Text.{Text}
-use Rattle.aipsio_rules.specs.Field.{latched, skipped, skippedEach, judged, settled, sizedAt, uintAt, rangedAt, agreed, markAt, textBefore, textAt, stringAt, nameAt}
+use Rattle.aipsio_rules.specs.Field.{latched, skipped, skippedEach, judged, settled, sizedAt, uintAt, rangedAt, agreed, textBefore, textAt, stringAt, nameAt}
 
 -- nothing was refused yet
 abbrev pub Clean : Cursor → Type 0
@@ -121,10 +121,6 @@ ranged-reads s c width low high n = settled-reads _ (sized-reads s c width .keep
 pub agreed-keeps : (s : List ℕ) (c : Cursor) (n : ℕ) → Keeps c (agreed s c n)
 unfolding agreed _>>=_
 agreed-keeps s c n = ranged-reads s c 4 n n 6 .keeps
-
-pub mark-keeps : (s : List ℕ) (c : Cursor) → Keeps c (markAt s c)
-unfolding markAt _>>=_
-mark-keeps s c = ranged-reads s c 4 0xbebebebe 0xbebebebe 2 .keeps
 
 pub any-string-reads : (s : List ℕ) (c : Cursor) → ReadsText c (textAt s c)
 unfolding textAt _>>=_

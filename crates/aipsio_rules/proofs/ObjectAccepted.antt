@@ -3,19 +3,21 @@
 -- Assumes nothing.
 use mathlib.Core.Path.{_≡_, refl, sym, ap}
 use mathlib.Core.List.{List}
-use Prim.Native.Nat.{ℕ, _+_, _*_, _≤_, _<_}
+use Prim.Native.Nat.{ℕ, zero, suc, _+_, _*_, _≤_, _<_}
+use native.Mathlib.Nat.{mul-pos}
 use native.Mathlib.Omega.{arith}
-use lib.Dec.{leb, eqb}
+use lib.Dec.{leb, eqb, lit<}
 use borrow.Author.Tests.{leb-true, eqb-true, eq-eqb}
 use Rattle.bytes_at.specs.Bytes.{bytes}
-use Rattle.bytes_at.specs.Steps.{_>>=_}
+use Rattle.bytes_at.specs.Steps.{after, _>>=_}
 use Rattle.aipsio_rules.specs.declared.Cursor.{Cursor}
+use Rattle.aipsio_rules.specs.declared.Value.{Value}
 use Rattle.aipsio_rules.specs.Field.{refusedAt, leftIn, skippedEach, settled, uintAt, rangedAt, agreed, nameAt}
 use Rattle.aipsio_rules.proofs.Kept.{Clean, clean-before, name-keeps, ranged-reads, agreed-keeps, _⨟_}
-use Rattle.aipsio_rules.proofs.Accepted.{latched-clean, passed-test, not-zero, each-fits, each-is, sized-fits, uint-is, agreed-is}
-use Rattle.aipsio_rules.specs.Object.{entered, opened, closed, passed, blockAt}
-use Rattle.aipsio_rules.proofs.ObjectKept.{passed-keeps}
-use Rattle.aipsio_rules.proofs.ObjectSides.{enter-on, close-on, pass-on}
+use Rattle.aipsio_rules.proofs.Accepted.{latched-clean, passed-test, not-zero, judged-passed, each-fits, each-is, sized-fits, ranged-within, uint-is, agreed-is}
+use Rattle.aipsio_rules.specs.Object.{entered, opened, closed, blockAt, axisInto, axesAt, shapeAt}
+use Rattle.aipsio_rules.proofs.ObjectKept.{closed-keeps, axis-reads}
+use Rattle.aipsio_rules.proofs.ObjectSides.{enter-on, close-on}
 
 -- the object ends in its container, and not before its header
 module _ (c outer : Cursor) (len : ℕ) (e : Clean (entered c outer len)) where
@@ -40,9 +42,6 @@ module _ (c outer : Cursor) where
 
   pub closed-is : Clean (closed c outer) → closed c outer ≡ record { at = c .at; end = outer .end; big = c .big; refused = 0 }
   closed-is e = let f = closed-full e in sym (close-on c (f .0) outer (f .1))
-
-  pub passed-is : Clean (passed c outer) → passed c outer ≡ record { at = c .end; end = outer .end; big = c .big; refused = 0 }
-  passed-is e = sym (pass-on c (clean-before (passed-keeps c outer) e) outer)
 
 -- an object, whose fields begin at o, in its container c
 pub record Inside (c o : Cursor) : Type 0 where
@@ -76,3 +75,28 @@ block-inside s c n size e =
     let q : k .end ≡ o .end = ap (λ (x : Cursor). x .end) (agreed-is s o n (g .0)) in
     let i = opened-inside s c (bytes "Block") 1 1 (clean-before (agreed-keeps s o n) (g .0)) in
     rw (eq-eqb (closed d c .refused) 0 e) (omega (arith, i .within))
+
+-- a number above 0
+pub settled-some : (v : ℕ) (c : Cursor) → (Clean c → 0 < v) → Clean (settled v c .next) → 0 < settled v c .value
+unfolding settled
+settled-some v c h e = rw (eq-eqb (c .refused) 0 e) (h e)
+
+-- "each axis and the product so far 1 to 1,048,576": a fixed shape has an element
+module _ (s : List ℕ) (width : ℕ) where
+  axis-some : (product : Value) → 0 < product .value → Clean (axisInto s width product .next) → 0 < axisInto s width product .value
+  unfolding axisInto _>>=_
+  axis-some product h = settled-some _ _ (λ e. mul-pos h (ranged-within s (product .next) width 1 1048576 3 (judged-passed _ _ _ 3 e .0) .0))
+
+  turns-some : (x : Value) → 0 < x .value → (n : ℕ)
+      → Clean (after (λ (p : Value) (i : ℕ). axisInto s width p) x n .next) → 0 < after (λ (p : Value) (i : ℕ). axisInto s width p) x n .value
+  unfolding after
+  turns-some x h zero e = h
+  turns-some x h (suc n) e = axis-some _ (turns-some x h n (clean-before (axis-reads s width _ .keeps) e)) e
+
+axes-some : (s : List ℕ) (c : Cursor) (n width : ℕ) → Clean (axesAt s c n width .next) → 0 < axesAt s c n width .value
+unfolding axesAt
+axes-some s c n width = turns-some s width _ (lit< tt) n
+
+pub shape-some : (s : List ℕ) (c : Cursor) (dimensions : ℕ) → Clean (shapeAt s c dimensions .next) → 0 < shapeAt s c dimensions .value
+unfolding shapeAt _>>=_
+shape-some s c dimensions = settled-some _ _ (λ e. axes-some s _ _ _ (clean-before (closed-keeps _ c) e))

@@ -100,31 +100,7 @@ pairs-yes f (x ∷ xs) d h =
     (all-yes (f x) xs d (λ j k. h 0 (suc j) (omega arith) (omega arith)))
     (pairs-yes f xs d (λ i j g k. h (suc i) (suc j) (omega arith) (omega arith)))
 
-pub pairs-no : {A : Type 0} (f : A → A → Bool) (l : List A) (d : A) (i j : ℕ) → i < j → j < length l
-    → (T (f (getD l i d) (getD l j d)) → ⊥) → pairs f l ≡ false
-pairs-no f l d i j g h n = is-false (pairs f l) (λ t. n (pairs-at f l d t i j g h))
-
 -- ---- two lists whose elements pass or fail alike
-pub all-same : {A B : Type 0} (f : A → Bool) (g : B → Bool) (l : List A) (m : List B) (d : A) (e : B) → length l ≡ length m
-    → ((i : ℕ) → i < length l → f (getD l i d) ≡ g (getD m i e)) → all f l ≡ all g m
-unfolding all
-all-same f g [] [] d e q h = refl
-all-same f g [] (y ∷ m) d e q h = absurd (omega arith)
-all-same f g (x ∷ l) [] d e q h = absurd (omega arith)
-all-same f g (x ∷ l) (y ∷ m) d e q h = rw (h 0 (omega arith), all-same f g l m d e (omega arith) (λ i k. h (suc i) (omega arith)))
-
-pub pairs-same : {A B : Type 0} (f : A → A → Bool) (g : B → B → Bool) (l : List A) (m : List B) (d : A) (e : B) → length l ≡ length m
-    → ((i j : ℕ) → i < j → j < length l → f (getD l i d) (getD l j d) ≡ g (getD m i e) (getD m j e)) → pairs f l ≡ pairs g m
-unfolding pairs
-pairs-same f g [] [] d e q h = refl
-pairs-same f g [] (y ∷ m) d e q h = absurd (omega arith)
-pairs-same f g (x ∷ l) [] d e q h = absurd (omega arith)
-pairs-same f g (x ∷ l) (y ∷ m) d e q h =
-    rw (
-      all-same (f x) (g y) l m d e (omega arith) (λ j k. h 0 (suc j) (omega arith) (omega arith)),
-      pairs-same f g l m d e (omega arith) (λ i j k n. h (suc i) (suc j) (omega arith) (omega arith)),
-    )
-
 -- ---- "different" is what it says
 pub unlike-yes : (a b : ℕ) → (a ≡ b → ⊥) → T (unlike a b)
 unlike-yes a b h = not-T (eqb a b) (λ t. h (eqb→eq a b t))

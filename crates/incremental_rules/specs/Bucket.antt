@@ -6,6 +6,7 @@ use mathlib.Core.Bool.{cond, _&&_, Bool, false}
 use lib.Dec.{eqb, leb, ltb}
 use lib.ListN.{replicate, set, getD}
 use mathlib.Core.List.{List}
+use Rattle.table_rules.specs.DataType.{isString}
 use Rattle.table_rules.specs.declared.Column.{Column}
 use Rattle.standard_rules.specs.Map.{ceil8}
 use Rattle.incremental_rules.specs.declared.Cells.{Cells}
@@ -22,7 +23,7 @@ use Rattle.incremental_rules.specs.declared.Starts.{Starts}
 
 -- "plus the cell's whole bytes"; "For a column of type String, arrays too, the offset alone"
 abbrev pub cellBytes : Column → ℕ
-cellBytes c = cond (eqb (c .datatype .number) 11) 0 (ceil8 (c .bits))
+cellBytes c = cond (isString (c .datatype .number)) 0 (ceil8 (c .bits))
 
 -- no column yet
 abbrev pub noCells : Cells

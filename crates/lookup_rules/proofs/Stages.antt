@@ -2,7 +2,7 @@
 -- Assumes nothing.
 use mathlib.Core.Path.{_≡_, refl, sym, _∙_}
 use mathlib.Core.List.{List}
-use mathlib.Core.Bool.{true, cond}
+use mathlib.Core.Bool.{cond}
 use Prim.Native.Nat.{ℕ}
 use native.Mathlib.Decide.{ℕ-discrete}
 use lib.ListN.{replicate}
@@ -40,6 +40,10 @@ module _ (d : Description) (r : Request) where
   pub target-column : targetOf d r .refused ≡ 0 → T (isColumn r (d .«column_count»))
   unfolding targetOf _>>=_
   target-column h = or-passed _ 7 (then-right (d .refused) _ (then-left _ _ h))
+
+  pub description-passed : targetOf d r .refused ≡ 0 → d .refused ≡ 0
+  unfolding targetOf _>>=_
+  description-passed h = then-left _ _ (then-left _ _ h)
 
   pub target-held : targetOf d r .refused ≡ 0
       → T (isHeld (kindWith (d .managers) (d .«manager_count») (targetOf d r .sequence)) (isPlaced r (columnIn d (r .position) .datatype .number)))
@@ -134,11 +138,3 @@ passed t f r l h =
 pub room-zero : (t f : List ℕ) (r : Request) (l : ℕ) → (answerFor t f r l .refused ≡ 0 → ⊥) → roomFor t f r l ≡ replicate l 0
 unfolding roomFor
 room-zero t f r l h = rw (ne-eqb (stagesOf t f r l .refused) 0 (λ e. h (answer-refused t f r l ∙ e)))
-
--- "and for every IncrementalStMan file"
-pub room-incremental : (t f : List ℕ) (r : Request) (l : ℕ) → stagesOf t f r l .incremental ≡ true → roomFor t f r l ≡ replicate l 0
-unfolding roomFor
-room-incremental t f r l e = elim (ℕ-discrete (stagesOf t f r l .refused) 0) [
-  | yes z ↦ rw (eq-eqb (stagesOf t f r l .refused) 0 z, e)
-  | no n ↦ rw (ne-eqb (stagesOf t f r l .refused) 0 n)
-]

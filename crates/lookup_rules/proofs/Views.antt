@@ -17,7 +17,7 @@ use Rattle.table_rules.specs.declared.Kind.{Kind}
 use Rattle.table_rules.specs.declared.Kind.the-variants.{Other, Standard, Incremental}
 use Rattle.table_rules.specs.declared.Description.{Description}
 use Rattle.table_rules.specs.Table.{describedAs, columnIn, bindingIn}
-use Rattle.standard_rules.specs.Map.{Map, columnAt, mapWith, mapOf}
+use Rattle.standard_rules.specs.Map.{Map, columnAt, ceil8, mapWith, mapOf}
 use Rattle.standard_rules.specs.Header.{bucketStart, headerAt}
 use Rattle.standard_rules.specs.Place.{Bits, placeOf, bucketIn, localRow}
 use Rattle.standard_rules.proofs.Places.{every-two}
@@ -30,15 +30,16 @@ use Rattle.lookup_rules.specs.declared.Request.{Request}
 use Rattle.lookup_rules.specs.declared.Asked.{Asked}
 use Rattle.lookup_rules.specs.declared.Question.the-variants.{Place, View}
 use Rattle.lookup_rules.specs.declared.Answer.{Answer}
-use Rattle.lookup_rules.specs.Questions.{requestOf, kindWith, isSeen, targetOf, planFor, stagesAfter, stagesOf, answered, answerFor, answerOf}
+use Rattle.lookup_rules.specs.Questions.{columnOf, requestOf, kindWith, isSeen, targetOf, planFor, stagesAfter, stagesOf, answered, answerFor, answerOf}
 use Rattle.lookup_rules.specs.Answers.{answerBits}
 use Rattle.lookup_rules.specs.Stale.{planOfNow}
-use Rattle.lookup_rules.specs.Views.{HoldsCell, EveryView, ViewsPlace}
-use Rattle.lookup_rules.proofs.CellAsked.{Cell, cell-sequence, cell-column}
+use Rattle.lookup_rules.specs.Views.{HoldsCell, EveryView, ViewsPlace, EveryPlaceHasBits}
+use Rattle.lookup_rules.proofs.CellAsked.{Cell, cell-column}
 use Rattle.table_rules.proofs.WholeBytes.{Even8, eight, times-even}
 use Rattle.table_rules.proofs.Described.{described}
+use Rattle.table_rules.proofs.SomeBits.{bits-some}
 use Rattle.standard_rules.proofs.Columns.{column-same}
-use Rattle.lookup_rules.proofs.Stages.{answer-refused, targetFor, target-sequence, target-described, target-held, stages-plan, seen-passed, passed}
+use Rattle.lookup_rules.proofs.Stages.{answer-refused, targetFor, target-sequence, target-described, target-held, description-passed, stages-plan, seen-passed, passed}
 use Rattle.lookup_rules.proofs.Places as standard
 use Rattle.lookup_rules.proofs.IncrementalPlaces as incremental
 
@@ -174,3 +175,31 @@ same-stages t f l row a h =
 pub views-place : ViewsPlace
 unfolding answerFor answered
 views-place t f l row a h = rw (same-stages t f l row a (sym (answer-refused t f (requestOf (View row a)) l) ∙ h))
+
+-- ---- a place is never empty: cell bits are never 0
+bits-there : (bits : ℕ) → 0 < bits → 0 < 8 * ceil8 bits
+bits-there bits h = omega arith
+
+module _ (t f : List ℕ) (l row : ℕ) (a : Asked) (h : answerOf t f (Place row a) l .refused ≡ 0) where
+  abbrev p : Request
+  p = requestOf (Place row a)
+
+  held : Cell p
+  held = record { cell = refl; column = refl }
+
+  described-some : 0 < columnIn (describedAs t) (columnOf a) .bits
+  described-some =
+      bits-some t (columnOf a) (description-passed (describedAs t) p (passed t f p l h .held)) (cell-column p _ held (passed t f p l h .column))
+
+  some-by : (k : Kind) → kindWith (describedAs t .managers) (describedAs t .«manager_count») (bindingIn (describedAs t) (columnOf a) .sequence) ≡ k
+      → 0 < answerFor t f p l .count
+  unfolding incrementalPlace
+  some-by Other e = absurd (rw (target-sequence (describedAs t) p, e) at (target-held (describedAs t) p (passed t f p l h .held)))
+  some-by Standard e =
+      rw (ap (λ (b : Bits). b .count) (standard.shown t f _ l p held e refl h .same), column-same (describedAs t) _ f (columnOf a) (cell-column p _ held (passed t f p l h .column)))
+      described-some
+  some-by Incremental e = rw (ap (λ (b : Bits). b .count) (incremental.same t f _ l p held e refl h)) (bits-there _ described-some)
+
+-- Every place that is not refused has bits, and so has every view, which is of the same bits.
+pub every-place-has-bits : EveryPlaceHasBits
+every-place-has-bits t f l row a h = some-by t f l row a h _ refl

@@ -1,8 +1,8 @@
 -- Document 01, "The questions" and "Refusal numbers": what each question answers, and the room afterwards.
-use Prim.Native.Nat.{ℕ, _*_, _/_}
+use Prim.Native.Nat.{ℕ, _*_}
 use mathlib.Core.List.{List}
 use mathlib.Core.Bool.{Bool, true, false, cond, not, _&&_, _||_}
-use lib.ListN.{length, take, drop, getD, replicate}
+use lib.ListN.{getD, replicate}
 use lib.Dec.{eqb, ltb}
 use Rattle.bytes_at.specs.Lists.{_⇒_, firstBelow}
 use Rattle.bytes_at.specs.Steps.{_>>=_}
@@ -10,6 +10,7 @@ use Rattle.bytes_at.specs.Stages.{_▷_, orNo}
 use Rattle.table_rules.specs.declared.Kind.{Kind}
 use Rattle.table_rules.specs.declared.Kind.the-variants.{Other, Standard, Incremental}
 use Rattle.table_rules.specs.declared.Manager.{Manager}
+use Rattle.table_rules.specs.DataType.{isBool, isString}
 use Rattle.table_rules.specs.declared.Description.{Description}
 use Rattle.table_rules.specs.ColumnSet.{noManager}
 use Rattle.table_rules.specs.Table.{describedAs, columnIn, bindingIn}
@@ -95,7 +96,7 @@ isIncremental Incremental = true
 
 -- "For a column of type String, arrays too, .. plan, place and view give 8"
 abbrev pub isPlaced : Request → ℕ → Bool
-isPlaced r datatype = r .column ⇒ not (eqb datatype 11)
+isPlaced r datatype = r .column ⇒ not (isString datatype)
 
 -- whether a question can be asked of a manager of a kind; "columns of other kinds are described, and have no place"
 abbrev pub isHeld : Kind → Bool → Bool
@@ -183,7 +184,7 @@ isBelow r rows = r .cell ⇒ ltb (r .row) rows
 
 -- "view of a Bool column, scalar or any array, in StandardStMan": 14
 abbrev pub isSeen : Request → Bool → ℕ → Bool
-isSeen r incremental datatype = r .view ⇒ incremental || not (eqb datatype 0)
+isSeen r incremental datatype = r .view ⇒ incremental || not (isBool datatype)
 
 -- these stages, after the file check's
 unfoldable pub stagesAfter : Request → Target → FileChecked → ℕ → Staged

@@ -1,5 +1,5 @@
 -- What no refusal shows, and what a question takes of a table. Assumes nothing.
-use mathlib.Core.Path.{_≡_, refl, sym, ap, _∙_}
+use mathlib.Core.Path.{_≡_, sym, ap, _∙_}
 use mathlib.Core.Bool.{Bool, true, false, cond, false≢true}
 use mathlib.Core.List.{List}
 use Prim.Native.Nat.{ℕ, _<_}
@@ -52,7 +52,7 @@ pub no-text : {A : Type 0} {i r : Bool} → i ≡ true → r ≡ i → r ≡ fal
 no-text e q k = absurd (false≢true (sym k ∙ q ∙ e))
 
 -- the element of 64 at a position, read at a place that is the position's where there is one
-pub picked : {A : Type 0} (xs : List A) (z : A) {i at : ℕ} {r : A} → length xs ≡ 64 → (i < 64 → at ≡ i) → r ≡ cond (ltb i 64) (getD xs at z) z → r ≡ getD xs i z
+picked : {A : Type 0} (xs : List A) (z : A) {i at : ℕ} {r : A} → length xs ≡ 64 → (i < 64 → at ≡ i) → r ≡ cond (ltb i 64) (getD xs at z) z → r ≡ getD xs i z
 picked xs z {i} {at} long e p = elim (decLt i 64) [
   | yes l ↦ rw (lt-ltb i 64 l, e l) at p
   | no l ↦ (rw (le-ltb i 64 (omega arith)) at p) ∙ sym (List·getD-eq-default xs z {n = i} (omega (arith, long)))

@@ -23,10 +23,6 @@ use Rattle.standard_rules.specs.declared.Checked.{Checked}
 use Rattle.standard.specs.Check.{mapped, beforeIndex, refusedFile}
 
 -- ---- what the first stages show
-pub head-passed : (refused : ℕ) (h : Header) (len room : ℕ) → beforeIndex refused h len room ≡ 0 → h .refused ≡ 0
-unfolding beforeIndex
-head-passed refused h len room z = then-left _ _ (then-right _ _ z)
-
 pub room-passed : (refused : ℕ) (h : Header) (len room : ℕ) → beforeIndex refused h len room ≡ 0 → h .length ≤ room
 unfolding beforeIndex
 room-passed refused h len room z =

@@ -12,7 +12,7 @@ use standard_rules::Set;
 pub fn first_bit(text: &[u8], s: Set, size: usize, offset: usize, bits: usize, row: usize) -> usize
     requires { ⌜ SetInside (length (now text)) 4 s ⌝ }
     requires { ⌜ (size ≤ 1048576) × (offset < 4294967296) × (bits ≤ 4294967296) × (row ≤ 2147483647) ⌝ }
-    ensures { λ r. ⌜ (0 < s .entries → r ≡ bitByHalving (now (text .entry)) s size offset bits row) ⌝ }
+    ensures { λ r. ⌜ (0 < s .entries → r ≡ bitByHalving (now (text .entry)) s size offset bits row) × (s .entries ≡ 0 → r ≡ 0) ⌝ }
 {
     let n = s.entries;
     let lasts = s.lasts;

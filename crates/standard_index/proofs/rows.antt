@@ -2,4 +2,3 @@
 pub mod Starts
 pub mod Covering
 pub mod Halving
-pub mod Cases

@@ -99,9 +99,6 @@ module _ (f : List ℕ) (size nb : ℕ) (few : nb ≤ 4096) where
       let rest = chainOk f size nb k (nextOf f size b) in
       both (ltb b nb) (freeOk f size nb k (nextOf f size b)) (and-l (ltb b nb) same (and-l (ltb b nb && same) rest t)) (chain-free k (nextOf f size b) (and-r (ltb b nb && same) rest t))
 
-  pub chain-once : (k b : ℕ) → T (chainOk f size nb k b) → (i j : ℕ) → i < j → j < k → getD (links f size k b) i 0 ≡ getD (links f size k b) j 0 → ⊥
-  chain-once k b t = free-once k b (chain-free k b t)
-
   pub chain-few : (k b : ℕ) → T (chainOk f size nb k b) → k ≤ nb
   chain-few k b t = free-few k b (chain-free k b t)
 

@@ -1,4 +1,3 @@
--- Laws that the proofs cite, and facts for the crates above.
+-- Laws that the proofs cite.
 pub mod Bits
 pub mod Ways
-pub mod Facts

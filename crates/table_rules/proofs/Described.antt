@@ -17,7 +17,7 @@ use Rattle.table_rules.specs.Table.{tableHeadAt, tableDescHeadAt, descri
 use Rattle.table_rules.proofs.WholeBytes.{Whole, no-columns-whole, columns-whole}
 
 -- the loops that fill the columns and their bindings keep the 64 places
-turns-long : (s : List ℕ) (c : Cursor) (n : ℕ) → length (after (columnInto s) (noColumns c) n .columns) ≡ 64
+pub turns-long : (s : List ℕ) (c : Cursor) (n : ℕ) → length (after (columnInto s) (noColumns c) n .columns) ≡ 64
 unfolding after columnInto _>>=_
 turns-long s c zero = length-replicate 64 noColumn
 turns-long s c (suc n) = length-set (after (columnInto s) (noColumns c) n .columns) n _ ∙ turns-long s c n
@@ -43,7 +43,7 @@ head-most : (s : List ℕ) (c : Cursor) → tableHeadAt s c .rows ≤ 2147483647
 unfolding tableHeadAt _>>=_
 head-most s c = ranged-le s c 4 0 2147483647 3
 
-count-most : (s : List ℕ) (c : Cursor) → tableDescHeadAt s c .count ≤ 64
+pub count-most : (s : List ℕ) (c : Cursor) → tableDescHeadAt s c .count ≤ 64
 unfolding tableDescHeadAt _>>=_
 count-most s c = ranged-le s _ 4 1 64 3
 

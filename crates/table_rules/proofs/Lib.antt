@@ -1,3 +1,5 @@
 -- Laws that the proofs cite.
 pub mod WholeBytes
 pub mod Described
+pub mod TableKept
+pub mod SomeBits

@@ -2,5 +2,4 @@
 pub mod Cases
 pub mod Table
 pub mod Names
-pub mod Place
-pub mod Facts
+pub mod Candidate

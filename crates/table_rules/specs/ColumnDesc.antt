@@ -8,7 +8,7 @@ use Rattle.table_rules.specs.declared.data_type.Known.{Known}
 use Rattle.table_rules.specs.declared.data_type.Known.the-variants.{Of, Nothing}
 use Rattle.table_rules.specs.declared.ColumnType.{ColumnType}
 use Rattle.bytes_at.specs.Bytes.{bytes, sameBytes}
-use Rattle.table_rules.specs.DataType.{withName}
+use Rattle.table_rules.specs.DataType.{nthType, elementBits, withName}
 use Rattle.bytes_at.specs.Steps.{_>>=_, after}
 use Rattle.aipsio_rules.specs.declared.Cursor.{Cursor}
 use Rattle.aipsio_rules.specs.Field.{minusOne, judged, stringAt, versionAt, settled, codeAt, uintAt, skipped, flagAt, numberAt}
@@ -26,7 +26,7 @@ use Rattle.table_rules.specs.declared.Columns.{Columns}
 -- what is no type carries the first of the table
 abbrev pub typed : Bool → Known → ColumnType
 typed array (Of t) = record { known = true; array = array; datatype = t }
-typed array Nothing = record { known = false; array = array; datatype = record { number = 0; bits = 1 } }
+typed array Nothing = record { known = false; array = array; datatype = nthType 0 }
 
 -- "ScalarColumnDesc<T and ArrayColumnDesc<T, no closing bracket"
 unfoldable pub columnTypeOf : List ℕ → ColumnType
@@ -138,19 +138,19 @@ tailAt s c array bits = do
   settled (m .value) d
 
 -- "Cell bits: scalars and direct arrays, elements x size x 8, a Bool element being one bit; String scalar, maximum x 8 if
--- above 0, else 96; direct String array 96; other arrays 64."
+-- above 0, else 96; direct String array 96; other arrays 64." The size is the table's, 0 for a String.
 unfoldable pub cellBits : DataType → Bool → ℕ → ℕ → ℕ → ℕ
 cellBits t array options elements maximum =
     cond array
-    (cond (isDirect options) (cond (eqb (t .bits) 0) 96 (elements * t .bits)) 64)
-    (cond (eqb (t .bits) 0) (cond (eqb maximum 0) 96 (maximum * 8)) (elements * t .bits))
+    (cond (isDirect options) (cond (eqb (elementBits t) 0) 96 (elements * elementBits t)) 64)
+    (cond (eqb (elementBits t) 0) (cond (eqb maximum 0) 96 (maximum * 8)) (elements * elementBits t))
 
 -- the rest of a ColumnDesc, past its name
 unfoldable pub columnRestAt : List ℕ → ColumnHead → Cursor → ColumnRead
 columnRestAt s head c = do
   notes ← notesAt s c
   layout ← layoutAt s notes (head .array) (head .datatype .number)
-  maximum ← tailAt s (layout .next) (head .array) (head .datatype .bits)
+  maximum ← tailAt s (layout .next) (head .array) (elementBits (head .datatype))
   bits ← cellBits (head .datatype) (head .array) (layout .options) (layout .elements) (maximum .value)
   record {
     column = record {

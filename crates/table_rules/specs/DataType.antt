@@ -1,5 +1,5 @@
 -- Document 01, "table.dat": the data types.
-use Prim.Native.Nat.{ℕ}
+use Prim.Native.Nat.{ℕ, _*_}
 use mathlib.Core.List.{List, [], _∷_, _++_}
 use lib.ListN.{getD, take}
 use lib.Dec.{eqb, ltb}
@@ -10,31 +10,54 @@ use Rattle.bytes_at.specs.Lists.{firstBelow}
 use Rattle.table_rules.specs.declared.data_type.Known.{Known}
 use Rattle.table_rules.specs.declared.data_type.Known.the-variants.{Of, Nothing}
 
-abbrev of : ℕ → ℕ → DataType
-of number bits = record { number = number; bits = bits }
+-- a row of the table: T, its number, and the bits of an element
+pub record TypeRow : Type 0 where
+  pub name : List ℕ
+  pub number : ℕ
+  pub bits : ℕ
 
--- the table of document 01: number and bits of each type, in its order; a String has none of its own
-abbrev pub types : List DataType
+abbrev row : List ℕ → ℕ → ℕ → TypeRow
+row name number bits = record { name = name; number = number; bits = bits }
+
+-- "Each data type carries its own size and number": the table of document 01, a byte being 8 bits. A String has no size of its own.
+abbrev pub types : List TypeRow
 types =
-    of 0 1 ∷ of 2 8 ∷ of 3 16 ∷ of 4 16 ∷ of 5 32 ∷ of 6 32
-    ∷ of 7 32 ∷ of 8 64 ∷ of 9 64 ∷ of 10 128 ∷ of 11 0 ∷ of 29 64 ∷ []
+    -- | T | number | bytes |
+    row (bytes "Bool") 0 1  -- | Bool | 0 | bit |
+    ∷ row (bytes "uChar") 2 (1 * 8)  -- | uChar | 2 | 1 |
+    ∷ row (bytes "Short") 3 (2 * 8)  -- | Short | 3 | 2 |
+    ∷ row (bytes "uShort") 4 (2 * 8)  -- | uShort | 4 | 2 |
+    ∷ row (bytes "Int") 5 (4 * 8)  -- | Int | 5 | 4 |
+    ∷ row (bytes "uInt") 6 (4 * 8)  -- | uInt | 6 | 4 |
+    ∷ row (bytes "float") 7 (4 * 8)  -- | float | 7 | 4 |
+    ∷ row (bytes "double") 8 (8 * 8)  -- | double | 8 | 8 |
+    ∷ row (bytes "Complex") 9 (8 * 8)  -- | Complex | 9 | 8 |
+    ∷ row (bytes "DComplex") 10 (16 * 8)  -- | DComplex | 10 | 16 |
+    ∷ row (bytes "String") 11 0  -- | String | 11 | below |
+    ∷ row (bytes "Int64") 29 (8 * 8)  -- | Int64 | 29 | 8 |
+    ∷ []
 
--- T of each type, in the same order
-abbrev pub names : List (List ℕ)
-names =
-    bytes "Bool" ∷ bytes "uChar" ∷ bytes "Short" ∷ bytes "uShort" ∷ bytes "Int" ∷ bytes "uInt"
-    ∷ bytes "float" ∷ bytes "double" ∷ bytes "Complex" ∷ bytes "DComplex" ∷ bytes "String" ∷ bytes "Int64" ∷ []
+-- past the table: no characters and no bits
+abbrev pub noRow : TypeRow
+noRow = row [] 0 0
+
+abbrev pub nthRow : ℕ → TypeRow
+nthRow i = getD types i noRow
 
 abbrev pub nthType : ℕ → DataType
-nthType i = getD types i (of 0 1)
+nthType i = record { number = nthRow i .number; bits = nthRow i .bits }
 
 -- the place of a number in the table, 12 where it has none
 unfoldable pub typePlace : ℕ → ℕ
-typePlace n = firstBelow (λ (i : ℕ). eqb n (nthType i .number)) 12
+typePlace n = firstBelow (λ (i : ℕ). eqb n (nthRow i .number)) 12
 
 -- a type's name; no characters for what is none of the types
 unfoldable pub typeName : DataType → List ℕ
-typeName t = getD names (typePlace (t .number)) []
+typeName t = nthRow (typePlace (t .number)) .name
+
+-- the bits of a type's element; 0 for a String and for what is none of the types
+unfoldable pub elementBits : DataType → ℕ
+elementBits t = nthRow (typePlace (t .number)) .bits
 
 -- "T followed by spaces up to eight characters"
 abbrev pub filled : List ℕ → List ℕ
@@ -53,4 +76,11 @@ withNumber n = knownAt (typePlace n)
 
 -- the type of a name
 unfoldable pub withName : List ℕ → Known
-withName s = knownAt (firstBelow (λ (i : ℕ). isName s (typeName (nthType i))) 12)
+withName s = knownAt (firstBelow (λ (i : ℕ). isName s (nthRow i .name)) 12)
+
+-- a Bool's number, and a String's
+abbrev pub isBool : ℕ → Bool
+isBool number = eqb number 0
+
+abbrev pub isString : ℕ → Bool
+isString number = eqb number 11

@@ -1,5 +1,6 @@
 -- Document 01, "table.dat", and Note 260, 3.1: Table, TableDesc; the questions Description and Column by name.
-use Prim.Native.Nat.{ℕ}
+use Prim.Native.Nat.{ℕ, _<_}
+use mathlib.Core.Path.{_≡_}
 use mathlib.Core.List.{List}
 use lib.ListN.{length, replicate, getD}
 use lib.Dec.{leb, eqb, ltb}
@@ -92,6 +93,10 @@ columnIn d position = getD (d .columns) position noColumn
 
 abbrev pub bindingIn : Description → ℕ → Binding
 bindingIn d position = getD (d .bindings) position noBinding
+
+-- Cell bits are never 0: of every table that is not refused, every column.
+abbrev pub EveryColumnHasBits : Type 0
+EveryColumnHasBits = (t : List ℕ) (i : ℕ) → describedAs t .refused ≡ 0 → i < describedAs t .«column_count» → 0 < columnIn (describedAs t) i .bits
 
 abbrev pub positionOr : ℕ → ℕ → Position
 positionOr refused k = cond (eqb refused 0) (At k) (Refused refused)

@@ -4,7 +4,7 @@ ghost use mathlib.Core.Path.{_≡_};
 ghost use Prim.Native.Nat.{_≤_, _<_, ℕ};
 ghost use lib.ListN.{length};
 ghost use mathlib.Core.Bool.{true};
-ghost use Rattle.table_rules.specs.DataType.{nthType, typeName, filled, withNumber, isName, withName};
+ghost use Rattle.table_rules.specs.DataType.{nthRow, typeName, elementBits, filled, withNumber, isName, withName};
 
 // A data type: its number in Casacore's DataType.h, and the bits of an element, 0 for a String, whose size is its cell's.
 pub struct DataType {
@@ -100,29 +100,6 @@ impl DataType {
 
     const NO_NAME: [u8; 8] = *b"        ";
 
-    // How many data types there are.
-    pub const COUNT: usize = 12;
-
-    // The type at a place of document 01's table.
-    fn nth(i: usize) -> DataType
-        ensures { λ r. ⌜ r ≡ nthType i ⌝ }
-    {
-        match i {
-            1 => DataType::UCHAR,
-            2 => DataType::SHORT,
-            3 => DataType::USHORT,
-            4 => DataType::INT,
-            5 => DataType::UINT,
-            6 => DataType::FLOAT,
-            7 => DataType::DOUBLE,
-            8 => DataType::COMPLEX,
-            9 => DataType::DCOMPLEX,
-            10 => DataType::STRING,
-            11 => DataType::INT64,
-            _ => DataType::BOOL,
-        }
-    }
-
     // The name, filled with spaces to eight characters; spaces alone for what is none of document 01's types.
     pub fn name(self) -> [u8; 8]
         ensures { λ r. ⌜ r ≡ filled (typeName self) ⌝ }
@@ -167,13 +144,6 @@ impl DataType {
         }
     }
 
-    // The bits of an element; 0 for a String.
-    pub fn element_bits(self) -> usize
-        ensures { λ r. ⌜ (r ≡ self .bits) × (r < 256) ⌝ }
-    {
-        self.bits as usize
-    }
-
     // The type of a number.
     pub fn from_number(n: usize) -> Known
         ensures { λ r. ⌜ r ≡ withNumber n ⌝ }
@@ -195,6 +165,17 @@ impl DataType {
         }
     }
 
+    // The bits of an element, by the type's number; 0 for a String and for what is none of document 01's types.
+    pub fn element_bits(self) -> usize
+        ensures { λ r. ⌜ (r ≡ elementBits self) × (r < 256) ⌝ }
+    {
+        let k = DataType::from_number(self.number as usize);
+        match k {
+            Known::Of(t) => t.bits as usize,
+            Known::Nothing => 0,
+        }
+    }
+
     // Whether the bytes are the type's name, bare or filled.
     fn named(self, s: &[u8]) -> bool
         ensures { λ r. ⌜ r ≡ isName (now (s .entry)) (typeName self) ⌝ }
@@ -207,32 +188,32 @@ impl DataType {
         bytes_at::text_at::same(s, &name)
     }
 
-    // The place of the one type whose name the bytes can be. The fourth letter tells the names apart, and the first uChar
+    // The number of the one type whose name the bytes can be. The fourth letter tells the names apart, and the first uChar
     // from float.
-    fn place(s: &[u8]) -> usize
-        ensures { λ r. ⌜ (r < 12) × ((j : ℕ) → j < 12 → isName (now (s .entry)) (typeName (nthType j)) ≡ true → r ≡ j) ⌝ }
+    fn candidate(s: &[u8]) -> usize
+        ensures { λ r. ⌜ ((i : ℕ) → i < 12 → isName (now (s .entry)) (nthRow i .name) ≡ true → r ≡ nthRow i .number) ⌝ }
     {
         if s.len() < 4 {
-            return 4;
+            return 5;
         }
         let letter = s[3];
         match letter {
             b'l' => 0,
             b'a' => {
                 if s[0] == b'u' {
-                    return 1;
+                    return 2;
                 }
-                6
+                7
             }
-            b'r' => 2,
-            b'o' => 3,
-            b't' => 5,
-            b'b' => 7,
-            b'p' => 8,
-            b'm' => 9,
-            b'i' => 10,
-            b'6' => 11,
-            _ => 4,
+            b'r' => 3,
+            b'o' => 4,
+            b't' => 6,
+            b'b' => 8,
+            b'p' => 9,
+            b'm' => 10,
+            b'i' => 11,
+            b'6' => 29,
+            _ => 5,
         }
     }
 
@@ -240,10 +221,15 @@ impl DataType {
     pub fn from_name(s: &[u8]) -> Known
         ensures { λ r. ⌜ r ≡ withName (now (s .entry)) ⌝ }
     {
-        let t = DataType::nth(DataType::place(s));
-        if t.named(s) {
-            return Known::Of(t);
+        let k = DataType::from_number(DataType::candidate(s));
+        match k {
+            Known::Of(t) => {
+                if t.named(s) {
+                    return k;
+                }
+                Known::Nothing
+            }
+            Known::Nothing => k,
         }
-        Known::Nothing
     }
 }

@@ -7,7 +7,7 @@ use Prim.Native.Nat.{ℕ, zero, suc, _+_, _-_, _*_, _≤_, _<_}
 use native.Mathlib.Nat.{zero-add, zero-sub, sub-zero, suc-sub-suc}
 use native.Mathlib.Decide.{ℕ-discrete}
 use native.Mathlib.Omega.{arith}
-use lib.ListN.{length, take, drop, replicate, length-drop, length-append, length-replicate}
+use lib.ListN.{length, take, drop, replicate, length-drop}
 use lib.Seq.{paste, take-at, length-take-le}
 use lib.Dec.{T, leb, ltb, eqb, leb→le, ltb→lt}
 use store.Enc.{and-l, and-r}
@@ -96,7 +96,3 @@ module _ (l : ℕ) (t : List ℕ) where
   pub padded-text : (n : ℕ) → length t ≡ n → take n (padded l t) ≡ t
   unfolding padded
   padded-text n e = take-at t (replicate (l - length t) 0) n e
-
-  pub padded-long : length t ≤ l → length (padded l t) ≡ l
-  unfolding padded
-  padded-long h = simp (length-append, length-replicate) (omega arith)

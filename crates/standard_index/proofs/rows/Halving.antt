@@ -172,8 +172,3 @@ search-looks lasts row h =
     let l = leading-length 64 (length lasts - 1) h in
     let a : halve lasts row (length lasts) 0 (length lasts - 1) 0 .looks ≤ 0 + l .0 = looks-le lasts row (length lasts) (l .0) 0 (length lasts - 1) 0 (omega (arith, l .2)) in
     omega (arith, l .1)
-
--- the same, of n numbers from a place on
-pub looks-of : (big : Bool) (w : ℕ) (s : List ℕ) (at n row : ℕ) → n - 1 < 2 ^ 64 → halvingOf (numbersAt big w s at n) row .looks ≤ 64 - leadingZeros 64 (n - 1)
-looks-of big w s at n row h =
-    rw (numbers-length big w s at n) at (search-looks (numbersAt big w s at n) row (rw (numbers-length big w s at n) h))

@@ -39,10 +39,6 @@ wider h w = record {
   per-most = w .per-most;
 }
 
--- no text has more than 65,536 bytes
-pub few-entries : {len : ℕ} {x : Set} → SetInside len 4 x → len ≤ 65536 → x .entries ≤ 16384
-few-entries w h = omega arith
-
 module _ (s : List ℕ) (c : Cursor) (width : Width) where
   pub set-stays : Stays c (ssmIndexAt s c width .next)
   unfolding ssmIndexAt _>>=_

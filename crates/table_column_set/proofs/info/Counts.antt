@@ -9,9 +9,8 @@ use mir.Val.{Fits}
 use mir.Syntax.{w64}
 use lib.ListN.{getD, set, replicate}
 use Rattle.bytes_at.specs.Steps.{after, _>>=_}
-use Rattle.aipsio_rules.specs.declared.Cursor.{Cursor}
 use Rattle.table_rules.specs.declared.Owners.{Owners}
-use Rattle.table_rules.specs.ColumnSet.{firstNumber, sequenceAt, ownerInto, ownersAt}
+use Rattle.table_rules.specs.ColumnSet.{firstNumber, sequenceAt, ownerInto}
 
 -- no number of a list is above a bound
 abbrev pub AtMost : List ℕ → ℕ → Type 0
@@ -39,10 +38,6 @@ module _ (s : List ℕ) (arrays : List Bool) (numbers : List ℕ) (m : ℕ) wher
   turns-le x h (suc i) =
       let y = after (ownerInto s arrays numbers m) x i in
       one-more-le (y .counts) i (turns-le x h i) (firstNumber numbers m (sequenceAt s (y .next) .value))
-
-  pub counts-le : (c : Cursor) (n : ℕ) → AtMost (ownersAt s c arrays n numbers m .counts) n
-  unfolding ownersAt
-  counts-le c n = turns-le _ (zeros-le 16) n
 
   -- the state of a loop that starts with no columns
   pub counted : (x : Owners) (i : ℕ) {y : Owners} → y ≡ after (ownerInto s arrays numbers m) x i → AtMost (x .counts) 0 → i ≤ 64 → AtMost (y .counts) 64

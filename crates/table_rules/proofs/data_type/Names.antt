@@ -49,7 +49,7 @@ module _ (s name : List ℕ) {whole : List ℕ} {len : ℕ} {r : Bool} (w : whol
   name-filled h e′ = rw (bare ∙ h, ← w) e′
 
 -- bytes that compare as the same are the same
-pub same-is : (a b : List ℕ) → sameBytes a b ≡ true → a ≡ b
+same-is : (a b : List ℕ) → sameBytes a b ≡ true → a ≡ b
 unfolding sameBytes
 same-is [] [] h = refl
 same-is [] (y ∷ b) h = absurd (false≢true h)

@@ -1,31 +1,56 @@
--- The table of data types: a number that it has not, and a place past its end, as the `_` arm of a `match` knows them.
+-- The table of data types: a number that it has not, as the `_` arm of a `match` knows it; and what the type of a number is.
 -- Assumes nothing.
-use mathlib.Core.Path.{_≡_, refl, sym}
+use mathlib.Core.Path.{_≡_, refl, sym, ap, _∙_}
+use mathlib.Core.Bool.{Bool, true, false, cond}
 use mathlib.Core.List.{[]}
-use Prim.Native.Nat.{ℕ, zero, suc}
-use native.Mathlib.Decide.{decLt}
+use Prim.Native.Nat.{ℕ, _≤_, _<_}
 use native.Mathlib.Omega.{arith}
-use lib.ListN.{getD, List·getD-eq-default}
-use Rattle.table_rules.specs.DataType.{types, names, nthType, typePlace, withNumber}
-use Rattle.table_rules.specs.declared.data_type.Known.the-variants.{Nothing}
-use Rattle.table_rules.proofs.data_type.Cases.{Each, each, none-first}
+use lib.Dec.{ltb}
+use lib.ListN.{List·getD-eq-default}
+use borrow.Author.Tests.{ltb-true, ltb-false}
+use Rattle.table_rules.specs.declared.data_type.DataType.{DataType}
+use Rattle.table_rules.specs.declared.data_type.Known.{Known}
+use Rattle.table_rules.specs.declared.data_type.Known.the-variants.{Of, Nothing}
+use Rattle.table_rules.specs.DataType.{TypeRow, types, noRow, nthRow, nthType, typePlace, elementBits, withNumber}
+use Rattle.table_rules.proofs.data_type.Cases.{Each, none-first}
 
-module _ (n : ℕ) (h : Each (λ (i : ℕ). n ≡ nthType i .number → ⊥) 12) where
+module _ (n : ℕ) (h : Each (λ (i : ℕ). n ≡ nthRow i .number → ⊥) 12) where
   no-place : typePlace n ≡ 12
   unfolding typePlace
-  no-place = none-first n (λ (i : ℕ). nthType i .number) 12 h
+  no-place = none-first n (λ (i : ℕ). nthRow i .number) 12 h
 
   pub no-type : Nothing ≡ withNumber n
   unfolding withNumber
   no-type = rw no-place
 
-  pub no-name : [] ≡ getD names (typePlace n) []
+  pub no-name : [] ≡ nthRow (typePlace n) .name
   no-name = rw no-place
 
--- past the table stands its first type
-pub past : (i : ℕ) → Each (λ (j : ℕ). i ≡ suc j → ⊥) 11 → nthType 0 ≡ nthType i
-past zero h = refl
-past (suc i) h = elim (decLt i 11) [
-  | yes k ↦ absurd (each (λ (j : ℕ). suc i ≡ suc j → ⊥) 11 h i k refl)
-  | no n ↦ sym (List·getD-eq-default types (nthType 0) {n = suc i} (omega arith))
-]
+is-of : (b : Bool) {t u : DataType} → Of t ≡ cond b (Of u) Nothing → (b ≡ true) × (t ≡ u)
+is-of true e = (refl, (cc))
+is-of false e = ((cc), (cc))
+
+is-none : (b : Bool) (u : DataType) → Nothing ≡ cond b (Of u) Nothing → b ≡ false
+is-none true u e = cc
+is-none false u e = refl
+
+-- the type of a number stands at the number's place
+pub number-of : (n : ℕ) {t : DataType} → Of t ≡ withNumber n → (typePlace n < 12) × (t ≡ nthType (typePlace n))
+unfolding withNumber
+number-of n e = let h = is-of (ltb (typePlace n) 12) e in (ltb-true (typePlace n) 12 (h .0), h .1)
+
+pub number-none : (n : ℕ) → Nothing ≡ withNumber n → 12 ≤ typePlace n
+unfolding withNumber
+number-none n e = ltb-false (typePlace n) 12 (is-none (ltb (typePlace n) 12) (nthType (typePlace n)) e)
+
+-- the bits of an element, from the type of the number
+module _ (t : DataType) {k : Known} (e : k ≡ withNumber (t .number)) where
+  pub bits-of : {u : DataType} → k ≡ Of u → u .bits ≡ elementBits t
+  unfolding elementBits
+  bits-of q = ap (λ (x : DataType). x .bits) (number-of (t .number) (sym q ∙ e) .1)
+
+  pub bits-none : k ≡ Nothing → 0 ≡ elementBits t
+  unfolding elementBits
+  bits-none q =
+      let past = number-none (t .number) (sym q ∙ e) in
+      ap (λ (r : TypeRow). r .bits) (sym (List·getD-eq-default types noRow {n = typePlace (t .number)} past))

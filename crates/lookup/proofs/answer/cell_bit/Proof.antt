@@ -15,5 +15,5 @@ cell-bit-spec =
     (λ c. bit-refused _ _ _ (c .if1 .taken))
     (λ c. bit-there _ _ _ (c .before .before .if1 .left) (c .before .if2 .taken) (c .if3 .taken))
     first-bit-requires
-    (λ c. bit-here _ _ (c .before .before .before .before .before .before .before .before .args .r) (c .before .before .before .before .before .if1 .left) (c .before .before .before .before .if2 .taken) (c .before .before .before .if3 .left) (c .before .before .before .before .before .before .before .before .pre) (c .first-bit .ensures))
+    (λ c. bit-here _ _ (c .before .before .before .before .before .before .before .before .args .r) (c .before .before .before .before .before .if1 .left) (c .before .before .before .before .if2 .taken) (c .before .before .before .if3 .left) (c .before .before .before .before .before .before .before .before .pre) (c .first-bit .ensures .0))
     (λ c. bit-none _ _ _ (c .before .if1 .left) (c .if2 .left)))

@@ -25,7 +25,10 @@ add-result-3 : tie.Need-add-result-3
 add-result-3 c = let p : c .before .word .result * (c .before .before .before .before .before .args .size) ≤ 4294967295 * 1048576 = product 4294967295 1048576 (omega arith) (omega arith) in let q : c .local-row .result * (c .before .before .before .before .before .args .bits) ≤ 2147483647 * 4294967296 = product 2147483647 4294967296 (omega (arith, c .local-row .ensures)) (omega arith) in omega arith
 
 returns-2 : tie.Need-returns-2
-returns-2 c = λ h. bit-by _ _ _ _ _ _ (c .before .before .find-entry .ensures .0) (c .before .word .ensures .0) (c .local-row .ensures)
+returns-2 c = (
+  λ h. bit-by _ _ _ _ _ _ (c .before .before .find-entry .ensures .0) (c .before .word .ensures .0) (c .local-row .ensures),
+  λ z. absurd (c .before .before .before .if1 .left z),
+)
 
 pub first-bit-spec : {M : Type 1} → statement M
 first-bit-spec =

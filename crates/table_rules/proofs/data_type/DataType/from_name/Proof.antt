@@ -1,6 +1,6 @@
--- `table_rules::data_type::DataType::from_name` meets its contract: the type at the one place that the name can have, or none.
+-- `table_rules::data_type::DataType::from_name` meets its contract: the one type whose name the bytes can be, or none.
 use borrow.Author.Needs.{needs}
-use Rattle.table_rules.proofs.data_type.Place.{name-found, name-unknown}
+use Rattle.table_rules.proofs.data_type.Candidate.{name-found, name-unknown, name-none}
 use Rattle.table_rules.proofs.data_type.DataType.from_name.Statement.{statement}
 use Rattle.table_rules.proofs.data_type.DataType.from_name.Tie as tie
 
@@ -9,6 +9,9 @@ from-name-spec =
     tie.close (tie.spec
     (λ c κs. search needs)
     (λ c κs. search needs)
+    (λ c. search needs)
     (λ c κs. search needs)
-    (λ c. name-found _ (c .before .before .before .place .ensures) (c .before .before .nth .ensures) (c .before .named .ensures) (c .if1 .taken))
-    (λ c. name-unknown _ (c .before .before .before .place .ensures) (c .before .before .nth .ensures) (c .before .named .ensures) (c .if1 .left)))
+    (λ c. name-found _ (c .before .before .before .before .before .before .candidate .ensures) (c .before .before .before .before .before .from-number .ensures) (c .before .before .before .k .given .1) (c .before .named .ensures) (c .if1 .taken))
+    (λ c. search needs)
+    (λ c. name-unknown _ (c .before .before .before .before .before .before .candidate .ensures) (c .before .before .before .before .before .from-number .ensures) (c .before .before .before .k .given .1) (c .before .named .ensures) (c .if1 .left))
+    (λ c. name-none _ (c .before .before .before .candidate .ensures) (c .before .before .from-number .ensures) (c .enum-told .given .1)))
