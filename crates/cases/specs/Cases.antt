@@ -29,8 +29,8 @@ TIME = 2
 abbrev roomLength : ℕ
 roomLength = 140
 
-abbrev placeOf : ℕ → ℕ → Question
-placeOf row c = Place row (Position c)
+abbrev cellIn : ℕ → ℕ → Question
+cellIn row c = Place row (Position c)
 
 -- "three index buckets (1, 3, 4) of 56": the n bytes of index text in them
 abbrev textIn : List ℕ → ℕ → List ℕ
@@ -73,32 +73,32 @@ headerOf n = headerAt (take n f0) true .refused
 unfoldable pub cases : List Bool
 cases =
     -- A: TIME row 5 is bytes 537 to 544
-    gives tableDat f0 134 (placeOf 5 TIME) (8 * 537) 64
+    gives tableDat f0 134 (cellIn 5 TIME) (8 * 537) 64
     -- B: TIME row 2 begins at byte 673, in bucket 2
-    ∷ gives tableDat f0 134 (placeOf 2 TIME) (8 * 673) 64
+    ∷ gives tableDat f0 134 (cellIn 2 TIME) (8 * 673) 64
     -- C: FLAG row 5 is bit 4,225
-    ∷ gives tableDat f0 134 (placeOf 5 FLAG) 4225 1
+    ∷ gives tableDat f0 134 (cellIn 5 FLAG) 4225 1
     -- D: SCAN row 6 begins at byte 520
-    ∷ gives tableDat f0 134 (placeOf 6 SCAN) (8 * 520) 32
+    ∷ gives tableDat f0 134 (cellIn 6 SCAN) (8 * 520) 32
     -- E: row 7 gives 9
-    ∷ refuses tableDat f0 (placeOf 7 TIME) 9
+    ∷ refuses tableDat f0 (cellIn 7 TIME) 9
     -- F: view of FLAG gives 14
     ∷ refuses tableDat f0 (View 5 (Position FLAG)) 14
     -- G: TIME at 16 gives 11
-    ∷ refuses (timeAt 16) f0 (placeOf 5 TIME) 11
+    ∷ refuses (timeAt 16) f0 (cellIn 5 TIME) 11
     -- H: last rows 3, 8 with 9 rows give 11
-    ∷ refuses (withRows 9) (withLast 8) (placeOf 5 TIME) 11
+    ∷ refuses (withRows 9) (withLast 8) (cellIn 5 TIME) 11
     -- I: index number 2 for three links gives 10
-    ∷ refuses tableDat (withIndexBuckets 2) (placeOf 5 TIME) 10
+    ∷ refuses tableDat (withIndexBuckets 2) (cellIn 5 TIME) 10
     -- J: TIME at 32 is accepted, at 33 gives 11
     ∷ gives (timeAt 32) f0 134 (Check 0) 0 0
-    ∷ gives (timeAt 32) f0 134 (placeOf 0 TIME) (8 * 672) 64
-    ∷ refuses (timeAt 33) f0 (placeOf 0 TIME) 11
+    ∷ gives (timeAt 32) f0 134 (cellIn 0 TIME) (8 * 672) 64
+    ∷ refuses (timeAt 33) f0 (cellIn 0 TIME) 11
     -- K: the StandardStMan header object is 70 bytes, 74 with mark
     ∷ eqb (uintOf true 4 f0 4) 70
     ∷ (eqb (headerOf 74) 0 && eqb (headerOf 73) 1)
     -- L: 8 Bools per row, row 1, offset 0, bucket 0: bits 4,104 to 4,111
-    ∷ gives boolsDat boolsF0 126 (placeOf 1 0) 4104 8
+    ∷ gives boolsDat boolsF0 126 (cellIn 1 0) 4104 8
     ∷ []
 
 -- Every case comes out as document 01 says.

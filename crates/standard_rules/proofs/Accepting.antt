@@ -13,7 +13,7 @@ use Rattle.bytes_at.specs.Lists.{all, allFrom, pairs, allApart, unlike, below}
 use Rattle.bytes_at.proofs.Tests.{all-at, all-from-at, pairs-at, or-cases, then, both, unlike-not}
 use Rattle.bytes_at.proofs.MoreTests.{all-append}
 use Rattle.bytes_at.proofs.Apart.{all-below, apart-below, one-place, front-apart, back-apart, both-apart, front-back}
-use Rattle.standard_rules.specs.Map.{Map, noMapSet, noMapColumn, setAt, columnAt, covers, setFits, countFits, setKnown, extentOf, extents, inBucket, clear, Meet, dataOf, used, fits, bucketAt, Kept, Accepted}
+use Rattle.standard_rules.specs.Map.{Map, noMapSet, noMapColumn, setAt, columnAt, covers, setFits, countFits, setKnown, extentOf, extents, inBucket, clear, Meet, dataOf, used, fits, bucketOf, Kept, MapAccepted}
 use Rattle.standard_rules.proofs.Entries.{Spans, covers-at, covers-end}
 use Rattle.standard_rules.proofs.DataBuckets.{data-at, data-once}
 
@@ -111,18 +111,18 @@ module _ (m : Map) (t : T (fits m)) where
   free-rule : T (allApart (m .count) (m .free))
   free-rule = back-apart (m .count) (m .index) (m .free) chains-rule
 
-  off-chains : (k e : ℕ) → k < length (m .sets) → e < length (setAt m k .buckets) → T (all (unlike (bucketAt m k e)) (m .index) && all (unlike (bucketAt m k e)) (m .free))
+  off-chains : (k e : ℕ) → k < length (m .sets) → e < length (setAt m k .buckets) → T (all (unlike (bucketOf m k e)) (m .index) && all (unlike (bucketOf m k e)) (m .free))
   off-chains k e h l =
-      rw (all-append (unlike (bucketAt m k e)) (m .index) (m .free))
+      rw (all-append (unlike (bucketOf m k e)) (m .index) (m .free))
       at (data-at (λ b. all (unlike b) (m .index ++ m .free)) (m .sets) (both-apart (m .count) (dataOf (m .sets)) (m .index ++ m .free) used-apart) k e (h, l))
 
-  off-index : (k e : ℕ) → k < length (m .sets) → e < length (setAt m k .buckets) → T (all (unlike (bucketAt m k e)) (m .index))
-  off-index k e h l = and-l (all (unlike (bucketAt m k e)) (m .index)) (all (unlike (bucketAt m k e)) (m .free)) (off-chains k e h l)
+  off-index : (k e : ℕ) → k < length (m .sets) → e < length (setAt m k .buckets) → T (all (unlike (bucketOf m k e)) (m .index))
+  off-index k e h l = and-l (all (unlike (bucketOf m k e)) (m .index)) (all (unlike (bucketOf m k e)) (m .free)) (off-chains k e h l)
 
-  off-free : (k e : ℕ) → k < length (m .sets) → e < length (setAt m k .buckets) → T (all (unlike (bucketAt m k e)) (m .free))
-  off-free k e h l = and-r (all (unlike (bucketAt m k e)) (m .index)) (all (unlike (bucketAt m k e)) (m .free)) (off-chains k e h l)
+  off-free : (k e : ℕ) → k < length (m .sets) → e < length (setAt m k .buckets) → T (all (unlike (bucketOf m k e)) (m .free))
+  off-free k e h l = and-r (all (unlike (bucketOf m k e)) (m .index)) (all (unlike (bucketOf m k e)) (m .free)) (off-chains k e h l)
 
-  pub accepted : Accepted m
+  pub accepted : MapAccepted m
   accepted =
       record {
         paired = λ k h. let f = set-fits k h in eqb→eq _ _ (search and-r);
@@ -139,7 +139,7 @@ module _ (m : Map) (t : T (fits m)) where
         data-apart = λ k l e f h g i j q. data-once (m .count) (m .sets) data-rule k l e f (h, i) (g, j) q;
         index-apart = one-place (m .count) (m .index) index-rule;
         free-apart = one-place (m .count) (m .free) free-rule;
-        data-index = λ k e i h l j. unlike-not _ _ (all-at (unlike (bucketAt m k e)) (m .index) 0 (off-index k e h l) i j);
-        data-free = λ k e i h l j. unlike-not _ _ (all-at (unlike (bucketAt m k e)) (m .free) 0 (off-free k e h l) i j);
+        data-index = λ k e i h l j. unlike-not _ _ (all-at (unlike (bucketOf m k e)) (m .index) 0 (off-index k e h l) i j);
+        data-free = λ k e i h l j. unlike-not _ _ (all-at (unlike (bucketOf m k e)) (m .free) 0 (off-free k e h l) i j);
         index-free = front-back (m .count) (m .index) (m .free) chains-rule;
       }

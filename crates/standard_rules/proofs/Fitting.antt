@@ -12,7 +12,7 @@ use Rattle.bytes_at.specs.Lists.{all, allFrom, pairs, allApart, unlike}
 use Rattle.bytes_at.proofs.Tests.{all-yes, all-from-yes, pairs-yes, or-yes, then-yes, both, unlike-yes}
 use Rattle.bytes_at.proofs.MoreTests.{all-append, across}
 use Rattle.bytes_at.proofs.Apart.{apart-yes, apart-joined, apart-across}
-use Rattle.standard_rules.specs.Map.{Map, noMapSet, noMapColumn, setAt, columnAt, covers, setFits, countFits, setKnown, Extent, extentOf, extents, inBucket, clear, Meet, dataOf, used, fits, bucketAt, Accepted, AcceptedExactly}
+use Rattle.standard_rules.specs.Map.{Map, noMapSet, noMapColumn, setAt, columnAt, covers, setFits, countFits, setKnown, Extent, extentOf, extents, inBucket, clear, Meet, dataOf, used, fits, bucketOf, MapAccepted, MapExactly}
 use Rattle.standard_rules.proofs.Entries.{Spans, covers-yes}
 use Rattle.standard_rules.proofs.DataBuckets.{data-yes, data-apart-yes}
 use Rattle.standard_rules.proofs.Accepting.{extent-at, extents-length, accepted}
@@ -28,7 +28,7 @@ clear-yes x y h =
     (eqb→eq (x .set) (y .set) (and-r (x .kept && y .kept) _ k))
     (record { one = nleb→lt _ _ (not-T (leb (y .end) (x .start)) n′); other = nleb→lt _ _ (not-T (leb (x .end) (y .start)) n) })))
 
-module _ (m : Map) (a : Accepted m) where
+module _ (m : Map) (a : MapAccepted m) where
   -- ---- the sets
   spans : (k e : ℕ) → k < length (m .sets) → e < length (setAt m k .lasts) → Spans (setAt m k .rowsPer) 0 (setAt m k .lasts) e
   spans k zero h l = record { low = omega arith; high = a .span k 0 h l }
@@ -81,10 +81,10 @@ module _ (m : Map) (a : Accepted m) where
   off-chains : T (across unlike (dataOf (m .sets)) (m .index ++ m .free))
   off-chains =
       data-yes (λ b. all (unlike b) (m .index ++ m .free)) (m .sets) (λ k e h.
-      rw (all-append (unlike (bucketAt m k e)) (m .index) (m .free))
-      (both (all (unlike (bucketAt m k e)) (m .index)) (all (unlike (bucketAt m k e)) (m .free))
-      (all-yes (unlike (bucketAt m k e)) (m .index) 0 (λ i j. unlike-yes _ _ (a .data-index k e i (h .0) (h .1) j)))
-      (all-yes (unlike (bucketAt m k e)) (m .free) 0 (λ i j. unlike-yes _ _ (a .data-free k e i (h .0) (h .1) j)))))
+      rw (all-append (unlike (bucketOf m k e)) (m .index) (m .free))
+      (both (all (unlike (bucketOf m k e)) (m .index)) (all (unlike (bucketOf m k e)) (m .free))
+      (all-yes (unlike (bucketOf m k e)) (m .index) 0 (λ i j. unlike-yes _ _ (a .data-index k e i (h .0) (h .1) j)))
+      (all-yes (unlike (bucketOf m k e)) (m .free) 0 (λ i j. unlike-yes _ _ (a .data-free k e i (h .0) (h .1) j)))))
 
   used-apart : T (allApart (m .count) (used m))
   used-apart = apart-joined (m .count) (dataOf (m .sets)) (m .index ++ m .free) data-rule off-chains chains-rule
@@ -93,5 +93,5 @@ module _ (m : Map) (a : Accepted m) where
   unfolding fits
   fitting = search (both, sets-fit, counts-fit, sets-known, extents-inside, extents-clear, used-apart) depth 8
 
-pub accepted-exactly : AcceptedExactly
-accepted-exactly m = (accepted m, fitting m)
+pub map-exactly : MapExactly
+map-exactly m = (accepted m, fitting m)

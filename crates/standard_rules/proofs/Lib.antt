@@ -6,3 +6,4 @@ pub mod Fitting
 pub mod Places
 pub mod Columns
 pub mod Counted
+pub mod Exactly

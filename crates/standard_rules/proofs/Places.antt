@@ -6,7 +6,7 @@ use native.Mathlib.Nat.{mul-le-mul-right}
 use native.Mathlib.Decide.{ℕ-discrete, decLt}
 use native.Mathlib.Omega.{arith}
 use lib.ListN.{length, getD}
-use Rattle.standard_rules.specs.Map.{Map, setAt, columnAt, setOf, firstRowOf, ceil8, Kept, Accepted}
+use Rattle.standard_rules.specs.Map.{Map, setAt, columnAt, setOf, firstRowOf, ceil8, Kept, MapAccepted}
 use Rattle.standard_rules.specs.Place.{Bits, entryIn, bucketIn, localRow, bucketBits, placeOf}
 use Rattle.standard_rules.specs.Demand.{Apart, Inside, Differ, Safe, Demand3, EveryTwo}
 use Rattle.standard_rules.proofs.Entries.{Found, found}
@@ -24,7 +24,7 @@ buckets-apart m b d p q i j n x =
       | no l ↦ let g : d < b = omega arith in omega (arith, step (m .size) g)
     ]
 
-module _ (m : Map) (a : Accepted m) where
+module _ (m : Map) (a : MapAccepted m) where
   -- what holds of one cell
   record Cell (row c : ℕ) : Type 0 where
     set-known : columnAt m c .set < length (m .sets)

@@ -1,14 +1,17 @@
 -- Document 01, "StandardStMan": when a file is accepted.
-use Prim.Native.Nat.{ℕ, _+_, _*_, _-_}
+use Prim.Native.Nat.{ℕ, _+_, _*_, _-_, _≤_}
+use mathlib.Core.Path.{_≡_}
+use mathlib.Core.Logic.{_↔_}
 use mathlib.Core.Bool.{Bool, cond}
-use lib.Dec.{leb, eqb}
+use lib.Dec.{T, leb, eqb}
 use mathlib.Core.List.{List, _++_}
 use lib.ListN.{length, getD, replicate}
 use Rattle.bytes_at.specs.Stages.{_▷_, orNo}
 use Rattle.table_rules.specs.declared.Description.{Description}
 use Rattle.standard_rules.specs.Index.{indexOk, freeOk, indexAt, indexTextOf, noSet}
-use Rattle.standard_rules.specs.Map.{MapColumn, fits, mapWith, columnsOf}
+use Rattle.standard_rules.specs.Map.{MapColumn, fits, mapWith, columnsOf, mapOf, MapAccepted}
 use Rattle.standard_rules.specs.Header.{headerAt}
+use Rattle.standard_rules.specs.declared.Header.{Header}
 use Rattle.standard_rules.specs.declared.Checked.{Checked}
 
 -- 1 where "the file is shorter than 512 + buckets x bucket size"
@@ -45,6 +48,32 @@ refusalOf d sequence f refused l = refusalWith (d .rows) (d .big) (columnsOf d s
 
 abbrev pub checkedAs : Description → ℕ → List ℕ → ℕ → ℕ → ℕ → Checked
 checkedAs d sequence f refused k l = checkedWith (d .rows) (d .big) (columnsOf d sequence) f refused k l
+
+-- The chapter as facts, in the order of that sentence, of a file with header h, whose index text is given, and a room of l bytes.
+pub record FileAccepted (d : Description) (sequence : ℕ) (f : List ℕ) (l : ℕ) (h : Header) (text : List ℕ) : Type 0 where
+  -- "header"
+  pub header : h .refused ≡ 0
+  -- "file length (1)"
+  pub long : 512 + h .count * h .size ≤ length f
+  -- "room (13)"
+  pub room : h .length ≤ l
+  -- "index chain", or the offset in one bucket
+  pub index : T (indexOk f (h .size) (h .count) (h .«index_count») (h .«first_index») (h .offset) (h .length))
+  -- "text"
+  pub sets : indexAt text (h .sets) .refused ≡ 0
+  -- "free chain"
+  pub free : T (freeOk f (h .size) (h .count) (h .«free_count») (h .«first_free»))
+  -- "map"
+  pub map : MapAccepted (mapOf d sequence f)
+
+abbrev pub Accepted : Description → ℕ → List ℕ → ℕ → Type 0
+Accepted d sequence f l = let h = headerAt f (d .big) in FileAccepted d sequence f l h (indexTextOf f h)
+
+-- Of every table, every file and every room: nothing refuses exactly when nothing was refused before and the file is accepted.
+abbrev pub AcceptedExactly : Type 0
+AcceptedExactly =
+    (d : Description) (sequence : ℕ) (f : List ℕ) (refused l : ℕ)
+    → (refusalOf d sequence f refused l ≡ 0) ↔ ((refused ≡ 0) × Accepted d sequence f l)
 
 -- a room of l bytes that holds the text, "then zeros"
 unfoldable pub padded : ℕ → List ℕ → List ℕ

@@ -5,6 +5,7 @@ use mathlib.Core.Bool.{Bool, false, true, _&&_, cond, _||_}
 use lib.ListN.{getD, length}
 use lib.Dec.{T, eqb, leb, ltb}
 use mathlib.Core.Path.{_≡_}
+use mathlib.Core.Logic.{_↔_}
 use Rattle.bytes_at.specs.Number.{numbersAt}
 use Rattle.standard_rules.specs.declared.Set.{Set}
 use Rattle.standard_rules.specs.Index.{noSet, links, indexAt, indexTextOf}
@@ -202,8 +203,8 @@ firstRowOf lasts e = firstRowFrom 0 lasts e
 abbrev pub lastAt : Map → ℕ → ℕ → ℕ
 lastAt m k e = getD (setAt m k .lasts) e 0
 
-abbrev pub bucketAt : Map → ℕ → ℕ → ℕ
-bucketAt m k e = getD (setAt m k .buckets) e 0
+abbrev pub bucketOf : Map → ℕ → ℕ → ℕ
+bucketOf m k e = getD (setAt m k .buckets) e 0
 
 -- Two extents meet: each starts before the other ends.
 pub record Meet (x y : Extent) : Type 0 where
@@ -211,7 +212,7 @@ pub record Meet (x y : Extent) : Type 0 where
   pub other : y .start < x .end
 
 -- The paragraph "Map" as facts, in its order.
-pub record Accepted (m : Map) : Type 0 where
+pub record MapAccepted (m : Map) : Type 0 where
   -- of the paragraph "Index": "Both Blocks' lengths equal the entry count"
   pub paired : (k : ℕ) → k < length (m .sets) → length (setAt m k .buckets) ≡ length (setAt m k .lasts)
   -- "in each set, last rows rise strictly"
@@ -230,21 +231,21 @@ pub record Accepted (m : Map) : Type 0 where
   pub extents-apart : (c d : ℕ) → (c ≡ d → ⊥) → Kept m c → Kept m d → columnAt m c .set ≡ columnAt m d .set
       → Meet (extentOf m (columnAt m c)) (extentOf m (columnAt m d)) → ⊥
   -- "Data buckets of all sets, index buckets and free buckets are in range"
-  pub data-below : (k e : ℕ) → k < length (m .sets) → e < length (setAt m k .buckets) → bucketAt m k e < m .count
+  pub data-below : (k e : ℕ) → k < length (m .sets) → e < length (setAt m k .buckets) → bucketOf m k e < m .count
   pub index-below : (i : ℕ) → i < length (m .index) → getD (m .index) i 0 < m .count
   pub free-below : (i : ℕ) → i < length (m .free) → getD (m .free) i 0 < m .count
   -- "and all different": those of each kind among themselves
   pub data-apart : (k l e f : ℕ) → k < length (m .sets) → l < length (m .sets) → e < length (setAt m k .buckets) → f < length (setAt m l .buckets)
-      → bucketAt m k e ≡ bucketAt m l f → (k ≡ l) × (e ≡ f)
+      → bucketOf m k e ≡ bucketOf m l f → (k ≡ l) × (e ≡ f)
   pub index-apart : (i j : ℕ) → i < length (m .index) → j < length (m .index) → getD (m .index) i 0 ≡ getD (m .index) j 0 → i ≡ j
   pub free-apart : (i j : ℕ) → i < length (m .free) → j < length (m .free) → getD (m .free) i 0 ≡ getD (m .free) j 0 → i ≡ j
   -- and those of each two kinds
   pub data-index : (k e i : ℕ) → k < length (m .sets) → e < length (setAt m k .buckets) → i < length (m .index)
-      → bucketAt m k e ≡ getD (m .index) i 0 → ⊥
+      → bucketOf m k e ≡ getD (m .index) i 0 → ⊥
   pub data-free : (k e i : ℕ) → k < length (m .sets) → e < length (setAt m k .buckets) → i < length (m .free)
-      → bucketAt m k e ≡ getD (m .free) i 0 → ⊥
+      → bucketOf m k e ≡ getD (m .free) i 0 → ⊥
   pub index-free : (i j : ℕ) → i < length (m .index) → j < length (m .free) → getD (m .index) i 0 ≡ getD (m .free) j 0 → ⊥
 
 -- The test passes exactly where these facts hold.
-abbrev pub AcceptedExactly : Type 0
-AcceptedExactly = (m : Map) → (T (fits m) → Accepted m) × (Accepted m → T (fits m))
+abbrev pub MapExactly : Type 0
+MapExactly = (m : Map) → T (fits m) ↔ MapAccepted m
