@@ -86,12 +86,8 @@ pub fn view_refusal(
 ) -> usize
     ensures { λ r. ⌜ (r ≡ answerOf (now (table .entry)) (now (file .entry)) (Question.View row (Asked.Position position)) (length (now (room .entry))) .refused) × (now (room .exit) ≡ roomAfter (now (table .entry)) (now (file .entry)) (Question.View row (Asked.Position position)) (length (now (room .entry)))) ⌝ }
 {
-    let a = crate::ask::ask(
-        table,
-        file,
-        Question::View(row, Asked::Position(position)),
-        room,
-    );
+    let q = Question::View(row, Asked::Position(position));
+    let a = crate::ask::ask(table, file, q, room);
     a.refused
 }
 
@@ -119,6 +115,7 @@ pub fn view_planned_refusal(
 ) -> usize
     ensures { λ r. ⌜ (r ≡ answerOf (now (table .entry)) (now (file .entry)) (Question.View row (Asked.Planned plan)) (length (now (room .entry))) .refused) × (now (room .exit) ≡ roomAfter (now (table .entry)) (now (file .entry)) (Question.View row (Asked.Planned plan)) (length (now (room .entry)))) ⌝ }
 {
-    let a = crate::ask::ask(table, file, Question::View(row, Asked::Planned(plan)), room);
+    let q = Question::View(row, Asked::Planned(plan));
+    let a = crate::ask::ask(table, file, q, room);
     a.refused
 }
