@@ -7,7 +7,7 @@ ghost use lib.ListN.{length};
 ghost use Prim.Native.Nat.{_+_, _/_};
 ghost use denote.Ref.{ptr};
 ghost use Rattle.lookup_rules.specs.Questions.{answerOf, roomAfter};
-ghost use Rattle.lookup_rules.specs.Answers.{verdictOf, plannedOf, placedOf, viewOf};
+ghost use Rattle.lookup_rules.specs.Answers.{verdictOf, verdictRefusal, plannedOf, plannedRefusal, plannedPlan, placedOf, placedRefusal, placedBits, answerBits, viewOf};
 use lookup_rules::Asked;
 use lookup_rules::Placed;
 use lookup_rules::Plan;
@@ -15,9 +15,10 @@ use lookup_rules::Planned;
 use lookup_rules::Question;
 use lookup_rules::Verdict;
 
-// File check.
+// File check. What each case of the answer says, document 01's number and values, is given by cases (`verdictRefusal`, ..).
 pub fn check(table: &[u8], file: &[u8], sequence: usize, room: &mut [u8]) -> Verdict
     ensures { λ r. ⌜ (r ≡ verdictOf (answerOf (now (table .entry)) (now (file .entry)) (Question.Check sequence) (length (now (room .entry))))) × (now (room .exit) ≡ roomAfter (now (table .entry)) (now (file .entry)) (Question.Check sequence) (length (now (room .entry)))) ⌝ }
+    ensures says { λ r. ⌜ verdictRefusal r ≡ answerOf (now (table .entry)) (now (file .entry)) (Question.Check sequence) (length (now (room .entry))) .refused ⌝ }
 {
     let a = crate::ask::ask(table, file, Question::Check(sequence), room);
     lookup_question::types::verdict(a)
@@ -26,6 +27,7 @@ pub fn check(table: &[u8], file: &[u8], sequence: usize, room: &mut [u8]) -> Ver
 // Plan.
 pub fn make_plan(table: &[u8], file: &[u8], position: usize, room: &mut [u8]) -> Planned
     ensures { λ r. ⌜ (r ≡ plannedOf (answerOf (now (table .entry)) (now (file .entry)) (Question.Prepare position) (length (now (room .entry))))) × (now (room .exit) ≡ roomAfter (now (table .entry)) (now (file .entry)) (Question.Prepare position) (length (now (room .entry)))) ⌝ }
+    ensures says { λ r. ⌜ (plannedRefusal r ≡ answerOf (now (table .entry)) (now (file .entry)) (Question.Prepare position) (length (now (room .entry))) .refused) × (plannedPlan r ≡ answerOf (now (table .entry)) (now (file .entry)) (Question.Prepare position) (length (now (room .entry))) .plan) ⌝ }
 {
     let a = crate::ask::ask(table, file, Question::Prepare(position), room);
     lookup_question::types::planned(a)
@@ -34,6 +36,7 @@ pub fn make_plan(table: &[u8], file: &[u8], position: usize, room: &mut [u8]) ->
 // Place of a row and a column position.
 pub fn place(table: &[u8], file: &[u8], row: usize, position: usize, room: &mut [u8]) -> Placed
     ensures { λ r. ⌜ (r ≡ placedOf (answerOf (now (table .entry)) (now (file .entry)) (Question.Place row (Asked.Position position)) (length (now (room .entry))))) × (now (room .exit) ≡ roomAfter (now (table .entry)) (now (file .entry)) (Question.Place row (Asked.Position position)) (length (now (room .entry)))) ⌝ }
+    ensures says { λ r. ⌜ (placedRefusal r ≡ answerOf (now (table .entry)) (now (file .entry)) (Question.Place row (Asked.Position position)) (length (now (room .entry))) .refused) × (placedBits r ≡ answerBits (answerOf (now (table .entry)) (now (file .entry)) (Question.Place row (Asked.Position position)) (length (now (room .entry))))) ⌝ }
 {
     let a = crate::ask::ask(
         table,
@@ -47,6 +50,7 @@ pub fn place(table: &[u8], file: &[u8], row: usize, position: usize, room: &mut 
 // Place of a row by a prepared plan.
 pub fn place_planned(table: &[u8], file: &[u8], row: usize, plan: Plan, room: &mut [u8]) -> Placed
     ensures { λ r. ⌜ (r ≡ placedOf (answerOf (now (table .entry)) (now (file .entry)) (Question.Place row (Asked.Planned plan)) (length (now (room .entry))))) × (now (room .exit) ≡ roomAfter (now (table .entry)) (now (file .entry)) (Question.Place row (Asked.Planned plan)) (length (now (room .entry)))) ⌝ }
+    ensures says { λ r. ⌜ (placedRefusal r ≡ answerOf (now (table .entry)) (now (file .entry)) (Question.Place row (Asked.Planned plan)) (length (now (room .entry))) .refused) × (placedBits r ≡ answerBits (answerOf (now (table .entry)) (now (file .entry)) (Question.Place row (Asked.Planned plan)) (length (now (room .entry))))) ⌝ }
 {
     let a = crate::ask::ask(
         table,

@@ -3,11 +3,17 @@ use borrow.Author.Needs.{needs}
 use mathlib.Core.Path.{ap, _∙_}
 use Rattle.bytes_at.proofs.Stepped.{free}
 use Rattle.lookup_rules.specs.Answers.{placedOf}
+use Rattle.lookup_rules.specs.declared.Question.the-variants.{Place}
+use Rattle.lookup_rules.specs.declared.Asked.the-variants.{Planned}
+use Rattle.lookup.proofs.Says.{placed-says}
 use Rattle.lookup.proofs.place_planned.Statement.{statement}
 use Rattle.lookup.proofs.place_planned.Tie as tie
 
 returns : tie.Need-returns
-returns c = (c .placed .ensures ∙ ap placedOf (c .before .before .before .ask .ensures .0), c .before .before .before .ask .ensures .1)
+returns c =
+    let a = c .before .before .before .before .before .before .before .before .args in
+    let asked = c .before .before .before .ask .ensures in
+    placed-says _ _ (Place (a .row) (Planned (a .plan))) _ (asked .1) (c .placed .ensures ∙ ap placedOf (asked .0))
 
 pub place-planned-spec : {M : Type 1} → statement M
 place-planned-spec = tie.close (tie.spec free free (λ c. search needs) returns)

@@ -15,6 +15,6 @@ place-by-spec =
     (λ c. search needs)
     free
     (λ c. search needs)
-    (λ c. by-arm _ _ _ _ _ (Position _) (c .before .before .before .before .before .asked .given .1) (c .before .before .place .ensures))
+    (λ c. by-arm _ _ _ _ _ (Position _) (c .before .before .before .before .before .asked .given .1) (c .before .before .place .ensures .0))
     (λ c. search needs)
-    (λ c. by-arm _ _ _ _ _ (Planned _) (c .before .before .before .before .before .asked2 .given .1) (c .before .before .place-planned .ensures)))
+    (λ c. by-arm _ _ _ _ _ (Planned _) (c .before .before .before .before .before .asked2 .given .1) (c .before .before .place-planned .ensures .0)))
