@@ -1,3 +1,3 @@
--- The definitions that the contracts cite.
+-- Document 01, "AipsIO": fields, then objects.
 pub mod Field
 pub mod Object

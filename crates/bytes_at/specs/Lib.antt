@@ -1,7 +1,7 @@
--- The definitions that the contracts cite.
+-- What all chapters share: numbers in bytes, lists, how definitions are put together, stages; and, last, how the code holds names.
 pub mod Number
 pub mod Bytes
 pub mod Lists
 pub mod Steps
-pub mod Joined
 pub mod Stages
+pub mod Joined

@@ -3,8 +3,8 @@ pub mod text_at;
 
 ghost use mathlib.Core.Path.{_≡_};
 ghost use Prim.Native.Nat.{_≤_, _<_, _+_, _-_};
-ghost use lib.ListN.{length, take, drop, replicate};
-ghost use mathlib.Core.Bool.{true, false, _&&_};
+ghost use lib.ListN.{getD, length, take, drop, replicate};
+ghost use mathlib.Core.Bool.{true, false, _&&_, _&&_};
 ghost use lib.Dec.{leb};
 ghost use lib.Seq.{paste};
 ghost use Rattle.bytes_at.specs.Number.{bytesOf, uintOf};
@@ -217,4 +217,25 @@ pub fn copy(src: &[u8], from: usize, n: usize, dst: &mut [u8], at: usize)
         dst[at + i] = src[from + i];
         i += 1;
     }
+}
+
+// Whether two tests both pass.
+pub fn both(a: bool, b: bool) -> bool
+    ensures { λ r. ⌜ r ≡ a && b ⌝ }
+{
+    if a {
+        return b;
+    }
+    false
+}
+
+// The number at a place of a list, 0 past its end.
+pub fn number_at(list: &[usize; 16], k: usize) -> usize
+    ensures { λ r. ⌜ r ≡ getD (now (list .entry)) k 0 ⌝ }
+{
+    let all = &list[..];
+    if k < all.len() {
+        return all[k];
+    }
+    0
 }

@@ -1,3 +1,3 @@
--- The definitions that the contracts cite.
+-- Definitions that only serve the code of this crate.
 pub mod Bounds
 pub mod Check

@@ -1,4 +1,4 @@
--- The rules that the contracts of `incremental` and the questions cite.
+-- Document 01, "IncrementalStMan", in its order.
 pub mod Header
 pub mod Index
 pub mod Bucket

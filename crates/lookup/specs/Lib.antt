@@ -1,2 +1,2 @@
--- The definitions that the contracts cite.
+-- Definitions that only serve the code of this crate.
 pub mod Answering

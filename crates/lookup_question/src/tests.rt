@@ -1,7 +1,7 @@
 // Whether what a question asks for passes (document 01, "Refusal numbers", Order): the column, the plan that is handed in, the row, and a
 // view.
 ghost use mathlib.Core.Path.{_≡_};
-ghost use mathlib.Core.Bool.{_&&_, _||_};
+ghost use mathlib.Core.Bool.{_||_};
 ghost use Rattle.bytes_at.specs.Stages.{_▷_, orNo};
 ghost use Rattle.lookup_rules.specs.Questions.{samePlan, isColumn, sequenceFor, isPlaced, isFresh, isBelow, isSeen};
 use lookup_rules::Plan;
@@ -20,15 +20,6 @@ pub fn stage(refused: usize, ok: bool, number: usize) -> usize
     number
 }
 
-fn both(a: bool, b: bool) -> bool
-    ensures { λ r. ⌜ r ≡ a && b ⌝ }
-{
-    if a {
-        return b;
-    }
-    false
-}
-
 fn either(a: bool, b: bool) -> bool
     ensures { λ r. ⌜ r ≡ a || b ⌝ }
 {
@@ -42,14 +33,14 @@ fn either(a: bool, b: bool) -> bool
 fn same_plan(a: Plan, b: Plan) -> bool
     ensures { λ r. ⌜ r ≡ samePlan a b ⌝ }
 {
-    let r1 = both(a.position == b.position, a.sequence == b.sequence);
-    let r2 = both(r1, a.datatype == b.datatype);
-    let r3 = both(r2, a.elements == b.elements);
-    let r4 = both(r3, a.bits == b.bits);
-    let r5 = both(r4, a.set == b.set);
-    let r6 = both(r5, a.offset == b.offset);
-    let r7 = both(r6, a.per == b.per);
-    both(r7, a.size == b.size)
+    let r1 = bytes_at::both(a.position == b.position, a.sequence == b.sequence);
+    let r2 = bytes_at::both(r1, a.datatype == b.datatype);
+    let r3 = bytes_at::both(r2, a.elements == b.elements);
+    let r4 = bytes_at::both(r3, a.bits == b.bits);
+    let r5 = bytes_at::both(r4, a.set == b.set);
+    let r6 = bytes_at::both(r5, a.offset == b.offset);
+    let r7 = bytes_at::both(r6, a.per == b.per);
+    bytes_at::both(r7, a.size == b.size)
 }
 
 // Whether the column exists, where one is asked for.

@@ -1,4 +1,4 @@
--- The questions, their answers, and the statements on stale plans, on views, and demand 3.
+-- Document 01, "The questions" and "Refusal numbers": the questions, their answers; then what holds of stale plans and of views, and demand 3.
 pub mod Questions
 pub mod Answers
 pub mod Stale

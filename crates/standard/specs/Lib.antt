@@ -1,4 +1,4 @@
--- The definitions that the contracts cite.
+-- Definitions that only serve the code of this crate.
 pub mod Columns
 pub mod Sets
 pub mod Check

@@ -39,17 +39,6 @@ fn counts_fit(counts: &[usize; 16], columns: &[usize; 16], m: usize) -> bool
     true
 }
 
-// The number at a place of a list, 0 past its end.
-fn number_at(list: &[usize; 16], k: usize) -> usize
-    ensures { λ r. ⌜ r ≡ getD (now (list .entry)) k 0 ⌝ }
-{
-    let all = &list[..];
-    if k < all.len() {
-        return all[k];
-    }
-    0
-}
-
 // Whether a column is kept elsewhere, or names one of m sets and ends within the bucket.
 fn column_fits(kept: bool, set: usize, end: usize, m: usize, size: usize) -> bool
     ensures { λ r. ⌜ r ≡ ((kept ⇒ ltb set m) && (kept ⇒ leb end size)) ⌝ }
@@ -61,15 +50,6 @@ fn column_fits(kept: bool, set: usize, end: usize, m: usize, size: usize) -> boo
         return false;
     }
     true
-}
-
-fn both(a: bool, b: bool) -> bool
-    ensures { λ r. ⌜ r ≡ (a && b) ⌝ }
-{
-    if a {
-        return b;
-    }
-    false
 }
 
 // Whether the columns of a file are right: every kept column names one of m sets and lies in the bucket, the column count of each
@@ -96,11 +76,11 @@ pub fn columns_fit(
     while i < n {
         let here = kept[i];
         let set = sets[i];
-        let per = number_at(pers, set);
+        let per = bytes_at::number_at(pers, set);
         let end = crate::extents::extent_end(offsets[i], per, bits[i]);
         let ok = column_fits(here, set, end, m, size);
         ends[i] = end;
-        fit = both(fit, ok);
+        fit = bytes_at::both(fit, ok);
         one_more(&mut counts, here, set);
         i += 1;
     }

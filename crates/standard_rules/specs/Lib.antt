@@ -1,4 +1,4 @@
--- The rules that the contracts of `standard` and the questions cite.
+-- Document 01, "StandardStMan", in its order; demand 3 of a map; and, last, how the code finds an entry.
 pub mod Header
 pub mod Index
 pub mod Map

@@ -102,8 +102,8 @@ pub fn bind(
     while i < n {
         let owner = owners[i];
         let k = owner.manager as usize;
-        let count = crate::info::number_at(&counts, k);
-        let start = crate::info::number_at(&starts, k);
+        let count = bytes_at::number_at(&counts, k);
+        let start = bytes_at::number_at(&starts, k);
         let one = flag_at(&ours, k);
         let info = bytes_at::part(s, start, 8 * count);
         bindings[i] = read_binding(info, owner, one, count);

@@ -40,17 +40,6 @@ fn skip_own_shape(s: &[u8], c: Cursor, array: bool) -> Cursor
     c
 }
 
-// The number at a place of a list, 0 past its end.
-pub fn number_at(list: &[usize; 16], k: usize) -> usize
-    ensures { λ r. ⌜ r ≡ getD (now (list .entry)) k 0 ⌝ }
-{
-    let all = &list[..];
-    if k < all.len() {
-        return all[k];
-    }
-    0
-}
-
 // One more at a place of a list of counts.
 fn one_more(counts: &mut [usize; 16], k: usize)
     requires { ⌜ (length (now counts) ≡ 16) × ((j : ℕ) → getD (now counts) j 0 ≤ 64) ⌝ }
@@ -94,7 +83,7 @@ pub fn read_owners(
         let q = read_sequence(s, next);
         let k = crate::data_managers::first_number(&numbers, m, q.value);
         let d = aipsio::judge(q.next, q.from, k < m, 6);
-        let rank = number_at(&counts, k);
+        let rank = bytes_at::number_at(&counts, k);
         owners[i] = Owner {
             sequence: q.value as u32,
             manager: k as u32,

@@ -1,4 +1,4 @@
--- The definitions that the contracts cite.
+-- Document 01, "table.dat", in its order.
 pub mod DataType
 pub mod ColumnDesc
 pub mod ColumnSet

@@ -1,10 +1,10 @@
--- `standard::columns::number_at` meets its contract, on either side of its test.
+-- `bytes_at::number_at` meets its contract, on either side of its test.
 use mathlib.Core.Path.{sym}
 use native.Mathlib.Omega.{arith}
 use borrow.Author.Needs.{needs}
 use lib.ListN.{List·getD-eq-default}
-use Rattle.standard.proofs.columns.number_at.Statement.{statement}
-use Rattle.standard.proofs.columns.number_at.Tie as tie
+use Rattle.bytes_at.proofs.number_at.Statement.{statement}
+use Rattle.bytes_at.proofs.number_at.Tie as tie
 
 pub number-at-spec : {M : Type 1} → statement M
 number-at-spec =
