@@ -1,4 +1,4 @@
--- `buckets::gather_chain` meets its contract. The loop's invariant: what is copied, and that the chain from here on decides.
+-- `standard_index::chain::gather_chain` meets its contract. The loop's invariant: what is copied, and that the chain from here on decides.
 use mathlib.Core.Path.{_∙_}
 use native.Mathlib.Omega.{arith}
 use borrow.Author.Needs.{needs}
