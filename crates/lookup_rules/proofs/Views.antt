@@ -4,7 +4,6 @@ use mathlib.Core.Path.{_≡_, refl, sym, ap, _∙_}
 use mathlib.Core.List.{List}
 use mathlib.Core.Bool.{false}
 use Prim.Native.Nat.{ℕ, _+_, _*_, _≤_, _<_}
-use native.Mathlib.Nat.{mul-le-mul}
 use native.Mathlib.Omega.{arith}
 use lib.Dec.{T, leb→le}
 use lib.ListN.{length}
@@ -20,7 +19,7 @@ use Rattle.table_rules.specs.Table.{describedAs, columnIn, bindingIn}
 use Rattle.standard_rules.specs.Map.{Map, columnAt, ceil8, mapWith, mapOf}
 use Rattle.standard_rules.specs.Header.{bucketStart, headerAt}
 use Rattle.standard_rules.specs.Place.{Bits, placeOf, bucketIn, localRow}
-use Rattle.standard_rules.proofs.Places.{every-two}
+use Rattle.standard_rules.proofs.Places.{step, every-two}
 use Rattle.standard_rules.specs.Check.{longEnough, refusalWith, refusalOf}
 use Rattle.incremental_rules.specs.Header.{headerAt as incrementalHeader}
 use Rattle.incremental_rules.specs.Check.{refusalOf as incrementalRefusal}
@@ -51,14 +50,6 @@ record Holds (f : List ℕ) (b : Bits) : Type 0 where
 
 holds : (f : List ℕ) (a : Answer) → Holds f (answerBits a) → HoldsCell f a
 holds f a h = record { starts = h .starts; bytes = h .bytes; there = omega (arith, h .starts, h .bytes, h .there) }
-
--- bucket b lies before the end of the last one
-bucket-end : (size : ℕ) {b count : ℕ} → b < count → b * size + size ≤ count * size
-bucket-end size {b} {count} h =
-    let g : b + 1 ≤ count = omega arith in
-    let e : size ≤ size = omega arith in
-    let p : (b + 1) * size ≤ count * size = mul-le-mul g e in
-    omega arith
 
 -- ---- in StandardStMan
 long-enough : (d : Description) (sequence : ℕ) (f : List ℕ) (refused l : ℕ) → refusalOf d sequence f refused l ≡ 0
@@ -107,7 +98,7 @@ module _ (t f : List ℕ) (l : ℕ) (r : Request) (w : Cell r) (h : answerFor t 
         record {
           starts = even-first (bucketStart (m .size) (bucketIn m (r .row) c) + columnAt m c .offset) (localRow m (r .row) c) (columnAt m c .bits) bits-even;
           bytes = bits-even;
-          there = omega (arith, e .inside .1, bucket-end (m .size) (e .in-range), long);
+          there = omega (arith, e .inside .1, step (m .size) (e .in-range), long);
         }
 
     standard-holds : Holds f (answerBits (answerFor t f r l))
@@ -132,7 +123,7 @@ module _ (t f : List ℕ) (l : ℕ) (r : Request) (w : Cell r) (h : answerFor t 
         record {
           starts = rw (ap (λ (b : Bits). b .first) e) (incremental-even _);
           bytes = rw (ap (λ (b : Bits). b .count) e) (incremental-bytes _);
-          there = omega (arith, x .inside .1, x .inside-bucket .1, bucket-end (incrementalHeader f (d .big) .size) (x .in-range), there-long);
+          there = omega (arith, x .inside .1, x .inside-bucket .1, step (incrementalHeader f (d .big) .size) (x .in-range), there-long);
         }
 
 -- ---- by the manager's kind
