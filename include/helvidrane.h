@@ -1,22 +1,28 @@
 /*
- * Helvidrane: a proved reader of Casacore tables, from C and C++.
+ * Helvidrane: a proved reader of Casacore tables, from C and C++. docs/RULES.md has the rules that it keeps.
  *
- * Link the archive that tools/archive makes: cc program.c target/staticlib/libc_api.a
+ * Link libhelvidrane, static or shared: `pkg-config --cflags --libs helvidrane` tells how, once `make install` has run.
  *
  * Bytes. The caller lends the whole of table.dat and of the file of one data manager, table.f<i>, in memory or mapped, and
  * nothing may change or shorten them before the function returns. A run of bytes or numbers is a pointer and the number of
  * its elements. No pointer is null, not even one to 0 elements: lend the address of any object then. `room` and `out` are
  * written and share no byte with each other or with anything else that is lent.
  *
- * Answers. A function gives 0 and writes its answer over the first numbers of `out`, or it gives the number of a refusal
- * (enum hv_number) and writes zeros there. Numbers behind those are left alone. Where `out` (or a plan) is too short the
- * function gives HV_SHORT and writes nothing at all. Lengths are the constants HV_.._LEN; numbers that the caller passes may
- * be any 64-bit numbers.
+ * Answers. A function gives 0 and writes the numbers of its answer into `out`, or it gives the number of a refusal (enum
+ * hv_number) and writes as many zeros. If `out` is shorter than the answer, it gets the first numbers of it, as many as it
+ * holds; if it is longer, what stands behind the answer is left alone. The lengths are the constants HV_.._LEN.
+ *
+ * Later versions. A later version of this library may write a longer answer, may know more refusals and may have more
+ * functions; all numbers that are here keep their place and their meaning. So a program that was compiled with this header
+ * goes on with a later library unchanged: it lends an `out` of today's length and gets today's numbers. It should take
+ * every number that it does not know for a refusal. A change that is more than this has another soname.
+ *
+ * Numbers that the caller passes may be any 64-bit numbers.
  *
  * Room. hv_check, hv_plan, hv_place and hv_view are lent a room for the index text of a StandardStMan file. It needs the
  * file's index length, else HV_REFUSED_ROOM; HV_ROOM_MOST bytes are always enough. An IncrementalStMan file needs none (0
  * bytes will do). Afterwards the whole room is zero where the function refused and for every IncrementalStMan file; else it
- * holds the index text, then zeros. HV_SHORT leaves it as it was.
+ * holds the index text, then zeros.
  *
  * The functions keep nothing between calls, allocate nothing and may run in several threads at once.
  */
@@ -30,7 +36,15 @@
 extern "C" {
 #endif
 
-/* The refusals: X(name, number, when it is given, as document 01 says it). */
+/* The version: here, and nowhere else. */
+#define HV_VERSION_MAJOR 1
+#define HV_VERSION_MINOR 0
+#define HV_VERSION_PATCH 0
+#define HV_IN_QUOTES(major, minor, patch) #major "." #minor "." #patch
+#define HV_QUOTED(major, minor, patch) HV_IN_QUOTES(major, minor, patch)
+#define HV_VERSION HV_QUOTED(HV_VERSION_MAJOR, HV_VERSION_MINOR, HV_VERSION_PATCH)
+
+/* The refusals: X(name, number, when it is given). */
 #define HV_REFUSALS(X)                                                                                                    \
     X(HV_REFUSED_END, 1,                                                                                                  \
       "bytes, or the enclosing object, end before the field or object does, or the file is shorter than 512 + buckets x " \
@@ -55,7 +69,7 @@ extern "C" {
 
 #define HV_CONSTANT(name, number, text) name = number,
 
-/* What a function gives. HV_SHORT is no refusal of the files: `out` or a plan is too short, and nothing was written. */
+/* What a function gives. HV_SHORT is no refusal of the files: a plan has too few numbers, and nothing was written. */
 enum hv_number { HV_ACCEPTED = 0, HV_REFUSALS(HV_CONSTANT) HV_SHORT = 255 };
 
 /* The data types: X(name, number, spelling in listings). */
@@ -120,6 +134,12 @@ enum hv_manager_number {
 /* The number of hv_column_by_name: the position. */
 #define HV_POSITION_LEN 1
 
+/* The number of hv_check. */
+enum hv_check_number {
+    HV_CHECK_BUCKET_SIZE, /* in bytes */
+    HV_CHECK_LEN
+};
+
 /* The numbers of a plan. Set, offset and rows per bucket are 0 for IncrementalStMan, whose cells are whole bytes. */
 enum hv_plan_number {
     HV_PLAN_POSITION,
@@ -144,74 +164,84 @@ enum hv_view_number { HV_VIEW_START, HV_VIEW_LENGTH, HV_VIEW_LEN };
  * Description: what table.dat says of the table.
  * out: HV_DESCRIPTION_LEN numbers. Refusals: 1 to 7.
  */
-uint64_t hv_description(const uint8_t *table, size_t table_len, uint64_t *out, size_t out_len);
+enum hv_number hv_description(const uint8_t *table, size_t table_len, uint64_t *out, size_t out_len);
 
 /*
  * Description: the column at a position, from 0 in stored order.
  * out: HV_COLUMN_LEN numbers. Refusals: 1 to 7; 8, no such column.
  */
-uint64_t hv_column(const uint8_t *table, size_t table_len, uint64_t position, uint64_t *out, size_t out_len);
+enum hv_number hv_column(const uint8_t *table, size_t table_len, uint64_t position, uint64_t *out, size_t out_len);
 
 /*
  * Description: the data manager at an index, from 0 in stored order (its sequence number is in the answer).
  * out: HV_MANAGER_LEN numbers. Refusals: 1 to 7; 8, no such manager.
  */
-uint64_t hv_manager(const uint8_t *table, size_t table_len, uint64_t index, uint64_t *out, size_t out_len);
+enum hv_number hv_manager(const uint8_t *table, size_t table_len, uint64_t index, uint64_t *out, size_t out_len);
 
 /*
  * Column by name: the position of the column with exactly these bytes as its name.
  * out: HV_POSITION_LEN number. Refusals: 1 to 7; 8, no such column.
  */
-uint64_t hv_column_by_name(const uint8_t *table, size_t table_len, const uint8_t *name, size_t name_len, uint64_t *out,
-                           size_t out_len);
+enum hv_number hv_column_by_name(const uint8_t *table, size_t table_len, const uint8_t *name, size_t name_len, uint64_t *out,
+                                 size_t out_len);
 
 /*
  * File check: whether `file` is a right file of the manager with this sequence number.
- * Only the number is given. Refusals: 1 to 7, of table.dat or of the file; 8, no such manager, or one of another kind; 10; 11;
- * 13. Never HV_SHORT.
+ * out: HV_CHECK_LEN number. Refusals: 1 to 7, of table.dat or of the file; 8, no such manager, or one of another kind; 10; 11;
+ * 13.
  */
-uint64_t hv_check(const uint8_t *table, size_t table_len, const uint8_t *file, size_t file_len, uint64_t sequence,
-                  uint8_t *room, size_t room_len);
+enum hv_number hv_check(const uint8_t *table, size_t table_len, const uint8_t *file, size_t file_len, uint64_t sequence,
+                        uint8_t *room, size_t room_len, uint64_t *out, size_t out_len);
 
 /*
  * Plan: where the cells of the column at a position are kept, after a check of the file, which is its manager's.
  * out: HV_PLAN_LEN numbers. Refusals: 1 to 7; 8, no such column, its manager of another kind, or a String column in
  * IncrementalStMan; 10; 11; 13.
  */
-uint64_t hv_plan(const uint8_t *table, size_t table_len, const uint8_t *file, size_t file_len, uint64_t position,
-                 uint8_t *room, size_t room_len, uint64_t *out, size_t out_len);
+enum hv_number hv_plan(const uint8_t *table, size_t table_len, const uint8_t *file, size_t file_len, uint64_t position,
+                       uint8_t *room, size_t room_len, uint64_t *out, size_t out_len);
 
 /*
  * Place: the bits of the file that hold the cell of a row and a column position, after a check of the file.
  * out: HV_PLACE_LEN numbers. Refusals: those of hv_plan; 9.
  */
-uint64_t hv_place(const uint8_t *table, size_t table_len, const uint8_t *file, size_t file_len, uint64_t row,
-                  uint64_t position, uint8_t *room, size_t room_len, uint64_t *out, size_t out_len);
+enum hv_number hv_place(const uint8_t *table, size_t table_len, const uint8_t *file, size_t file_len, uint64_t row,
+                        uint64_t position, uint8_t *room, size_t room_len, uint64_t *out, size_t out_len);
 
 /*
- * Place, of the column that a plan of HV_PLAN_LEN numbers was made for. A plan whose numbers are not all those of a fresh
- * plan for its position is stale. HV_SHORT also where the plan has fewer numbers.
+ * Place, of the column that a plan was made for. A plan whose first HV_PLAN_LEN numbers are not all those of a fresh plan for its
+ * position is stale. HV_SHORT where it has fewer, and then nothing is written, the room included; numbers behind them are not
+ * looked at.
  * out: HV_PLACE_LEN numbers. Refusals: those of hv_plan; 12; 9.
  */
-uint64_t hv_place_planned(const uint8_t *table, size_t table_len, const uint8_t *file, size_t file_len, uint64_t row,
-                          const uint64_t *plan, size_t plan_len, uint8_t *room, size_t room_len, uint64_t *out,
-                          size_t out_len);
+enum hv_number hv_place_planned(const uint8_t *table, size_t table_len, const uint8_t *file, size_t file_len, uint64_t row,
+                                const uint64_t *plan, size_t plan_len, uint8_t *room, size_t room_len, uint64_t *out,
+                                size_t out_len);
 
 /*
  * View: the bytes of the file that hold the cell of a row and a column position, after a check of the file.
  * out: HV_VIEW_LEN numbers; the cell is file[start] to file[start + length - 1]. Refusals: those of hv_plan; 9; 14, since the
  * cells of a Bool column in StandardStMan need not be whole bytes: hv_place gives their bits.
  */
-uint64_t hv_view(const uint8_t *table, size_t table_len, const uint8_t *file, size_t file_len, uint64_t row,
-                 uint64_t position, uint8_t *room, size_t room_len, uint64_t *out, size_t out_len);
+enum hv_number hv_view(const uint8_t *table, size_t table_len, const uint8_t *file, size_t file_len, uint64_t row,
+                       uint64_t position, uint8_t *room, size_t room_len, uint64_t *out, size_t out_len);
 
 /*
- * View, of the column that a plan of HV_PLAN_LEN numbers was made for. HV_SHORT also where the plan has fewer numbers.
+ * View, of the column that a plan was made for; of the plan as hv_place_planned has it.
  * out: HV_VIEW_LEN numbers. Refusals: those of hv_plan; 12; 9; 14.
  */
-uint64_t hv_view_planned(const uint8_t *table, size_t table_len, const uint8_t *file, size_t file_len, uint64_t row,
-                         const uint64_t *plan, size_t plan_len, uint8_t *room, size_t room_len, uint64_t *out,
-                         size_t out_len);
+enum hv_number hv_view_planned(const uint8_t *table, size_t table_len, const uint8_t *file, size_t file_len, uint64_t row,
+                               const uint64_t *plan, size_t plan_len, uint8_t *room, size_t room_len, uint64_t *out,
+                               size_t out_len);
+
+/*
+ * When a refusal is given, in words. "accepted" for 0, and words for HV_SHORT and for every other number too: never null. The
+ * text is constant.
+ */
+const char *hv_refusal_text(uint64_t number);
+
+/* The version of the library that is linked, as HV_VERSION has that of this header. */
+const char *hv_version(void);
 
 #ifdef __cplusplus
 }

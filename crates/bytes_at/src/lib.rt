@@ -2,7 +2,7 @@
 pub mod text_at;
 
 ghost use mathlib.Core.Path.{_≡_};
-ghost use Prim.Native.Nat.{_≤_, _<_, _+_, _-_};
+ghost use Prim.Native.Nat.{_≤_, _<_, _+_, _-_, min};
 ghost use lib.ListN.{getD, length, take, drop, replicate};
 ghost use mathlib.Core.Bool.{true, false, _&&_, _&&_};
 ghost use lib.Dec.{leb};
@@ -164,6 +164,14 @@ pub fn minus(a: usize, b: usize) -> usize
         return a - b;
     }
     0
+}
+
+// The lesser of two numbers.
+pub fn least(a: usize, b: usize) -> usize
+    ensures { λ r. ⌜ r ≡ min a b ⌝ }
+    ensures bounds { λ r. ⌜ (r ≤ a) × (r ≤ b) × (r < a → r ≡ b) ⌝ }
+{
+    if a < b { a } else { b }
 }
 
 // Whether a number lies in a range.

@@ -1,20 +1,21 @@
 // The questions for C: numbers and lent slices, each a pointer and a length. A function gives 0, or the number of the
-// refusal, and writes its answer into `out`, zeros where it is refused. An `out` or a plan that is too short gives 255, and
-// nothing is written, the room included.
+// refusal, and writes the numbers of its answer into `out`, as many as it holds; zeros where it is refused. So an answer can become
+// longer, and a program that lends the shorter `out` of an earlier version gets what it got then. A plan of fewer than nine numbers
+// gives 255, and nothing is written, the room included.
 ghost use mathlib.Core.Path.{_≡_};
 ghost use mathlib.Core.List.{[], _∷_};
 ghost use lib.ListN.{length};
 ghost use Rattle.table_rules.specs.Table.{describedAs, columnNamed, positionRefusal, positionValue};
-ghost use Rattle.c_numbers.specs.Answers.{orShort, written, summaryOf, columnRefusal, columnNumbers, managerRefusal, managerNumbers, roomLeft, ifNine};
+ghost use Rattle.c_numbers.specs.Answers.{written, summaryOf, columnRefusal, columnNumbers, managerRefusal, managerNumbers, ifNine};
 ghost use Rattle.lookup_rules.specs.Questions.{answerOf, roomAfter};
-ghost use Rattle.c_numbers.specs.Numbers.{planNumbers, placeNumbers, viewNumbers, planFrom};
+ghost use Rattle.c_numbers.specs.Numbers.{checkNumbers, planNumbers, placeNumbers, viewNumbers, planFrom};
 use lookup_rules::Asked;
 use lookup_rules::Question;
 
 // Row count, byte order (1: big endian), number of columns, number of managers: 4 numbers.
 #[no_mangle]
 pub extern "C" fn hv_description(table: &[u8], out: &mut [u64]) -> u64
-    ensures { λ r. ⌜ (r ≡ orShort (summaryOf (describedAs (now (table .entry)))) (now (out .entry)) (describedAs (now (table .entry)) .refused)) × (now (out .exit) ≡ written (summaryOf (describedAs (now (table .entry)))) (now (out .entry))) ⌝ }
+    ensures { λ r. ⌜ (r ≡ describedAs (now (table .entry)) .refused) × (now (out .exit) ≡ written (summaryOf (describedAs (now (table .entry)))) (now (out .entry))) ⌝ }
 {
     let d = table::describe(table);
     let big = c_numbers::flag(d.big);
@@ -24,14 +25,15 @@ pub extern "C" fn hv_description(table: &[u8], out: &mut [u64]) -> u64
         d.column_count as u64,
         d.manager_count as u64,
     ];
-    c_numbers::values::answer(d.refused as u64, &values, out)
+    c_numbers::values::write(&values, out);
+    d.refused as u64
 }
 
 // A column, 11 numbers: where its name begins in table.dat and how long it is, data type number, 1 for an array, options,
 // element count, string maximum, cell bits, sequence number, set and offset. No such column: 8.
 #[no_mangle]
 pub extern "C" fn hv_column(table: &[u8], position: u64, out: &mut [u64]) -> u64
-    ensures { λ r. ⌜ (r ≡ orShort (columnNumbers (describedAs (now (table .entry))) position) (now (out .entry)) (columnRefusal (describedAs (now (table .entry))) position)) × (now (out .exit) ≡ written (columnNumbers (describedAs (now (table .entry))) position) (now (out .entry))) ⌝ }
+    ensures { λ r. ⌜ (r ≡ columnRefusal (describedAs (now (table .entry))) position) × (now (out .exit) ≡ written (columnNumbers (describedAs (now (table .entry))) position) (now (out .entry))) ⌝ }
 {
     let d = table::describe(table);
     let count = d.column_count;
@@ -41,14 +43,15 @@ pub extern "C" fn hv_column(table: &[u8], position: u64, out: &mut [u64]) -> u64
     let b = c_numbers::values::pick_binding(bindings, count, position);
     let refused = c_numbers::values::refusal(d.refused, position, count);
     let values = c_numbers::of_column(c, b);
-    c_numbers::values::answer(refused, &values, out)
+    c_numbers::values::write(&values, out);
+    refused
 }
 
 // A manager, 4 numbers: sequence number, kind (1 StandardStMan, 2 IncrementalStMan, 0 any other), where its name begins in
 // table.dat and how long it is. No such manager: 8.
 #[no_mangle]
 pub extern "C" fn hv_manager(table: &[u8], index: u64, out: &mut [u64]) -> u64
-    ensures { λ r. ⌜ (r ≡ orShort (managerNumbers (describedAs (now (table .entry))) index) (now (out .entry)) (managerRefusal (describedAs (now (table .entry))) index)) × (now (out .exit) ≡ written (managerNumbers (describedAs (now (table .entry))) index) (now (out .entry))) ⌝ }
+    ensures { λ r. ⌜ (r ≡ managerRefusal (describedAs (now (table .entry))) index) × (now (out .exit) ≡ written (managerNumbers (describedAs (now (table .entry))) index) (now (out .entry))) ⌝ }
 {
     let d = table::describe(table);
     let count = d.manager_count;
@@ -56,26 +59,36 @@ pub extern "C" fn hv_manager(table: &[u8], index: u64, out: &mut [u64]) -> u64
     let m = c_numbers::values::pick_manager(managers, count, index);
     let refused = c_numbers::values::refusal(d.refused, index, count);
     let values = c_numbers::of_manager(m);
-    c_numbers::values::answer(refused, &values, out)
+    c_numbers::values::write(&values, out);
+    refused
 }
 
 // The position of the column with a name: 1 number. No such column: 8.
 #[no_mangle]
 pub extern "C" fn hv_column_by_name(table: &[u8], name: &[u8], out: &mut [u64]) -> u64
-    ensures { λ r. ⌜ (r ≡ orShort (positionValue (columnNamed (now (table .entry)) (now (name .entry))) ∷ []) (now (out .entry)) (positionRefusal (columnNamed (now (table .entry)) (now (name .entry))))) × (now (out .exit) ≡ written (positionValue (columnNamed (now (table .entry)) (now (name .entry))) ∷ []) (now (out .entry))) ⌝ }
+    ensures { λ r. ⌜ (r ≡ positionRefusal (columnNamed (now (table .entry)) (now (name .entry)))) × (now (out .exit) ≡ written (positionValue (columnNamed (now (table .entry)) (now (name .entry))) ∷ []) (now (out .entry))) ⌝ }
 {
     let p = table::names::column_by_name(table, name);
     let refused = c_numbers::values::position_refusal(p);
     let values = [c_numbers::values::position_number(p)];
-    c_numbers::values::answer(refused, &values, out)
+    c_numbers::values::write(&values, out);
+    refused
 }
 
-// File check: the refusal alone.
+// File check, 1 number: the file's bucket size.
 #[no_mangle]
-pub extern "C" fn hv_check(table: &[u8], file: &[u8], sequence: u64, room: &mut [u8]) -> u64
-    ensures { λ r. ⌜ (r ≡ answerOf (now (table .entry)) (now (file .entry)) (Question.Check sequence) (length (now (room .entry))) .refused) × (now (room .exit) ≡ roomAfter (now (table .entry)) (now (file .entry)) (Question.Check sequence) (length (now (room .entry)))) ⌝ }
+pub extern "C" fn hv_check(
+    table: &[u8],
+    file: &[u8],
+    sequence: u64,
+    room: &mut [u8],
+    out: &mut [u64],
+) -> u64
+    ensures { λ r. ⌜ (r ≡ answerOf (now (table .entry)) (now (file .entry)) (Question.Check sequence) (length (now (room .entry))) .refused) × (now (out .exit) ≡ written (checkNumbers (answerOf (now (table .entry)) (now (file .entry)) (Question.Check sequence) (length (now (room .entry))))) (now (out .entry))) × (now (room .exit) ≡ roomAfter (now (table .entry)) (now (file .entry)) (Question.Check sequence) (length (now (room .entry)))) ⌝ }
 {
     let a = lookup::ask::ask(table, file, Question::Check(sequence as usize), room);
+    let values = c_numbers::of_check(a);
+    c_numbers::values::write(&values, out);
     a.refused as u64
 }
 
@@ -88,39 +101,33 @@ pub extern "C" fn hv_plan(
     room: &mut [u8],
     out: &mut [u64],
 ) -> u64
-    ensures { λ r. ⌜ (r ≡ orShort (planNumbers (answerOf (now (table .entry)) (now (file .entry)) (Question.Prepare position) (length (now (room .entry))) .plan)) (now (out .entry)) (answerOf (now (table .entry)) (now (file .entry)) (Question.Prepare position) (length (now (room .entry))) .refused)) × (now (out .exit) ≡ written (planNumbers (answerOf (now (table .entry)) (now (file .entry)) (Question.Prepare position) (length (now (room .entry))) .plan)) (now (out .entry))) × (now (room .exit) ≡ roomLeft 9 (now (out .entry)) (now (room .entry)) (roomAfter (now (table .entry)) (now (file .entry)) (Question.Prepare position) (length (now (room .entry))))) ⌝ }
+    ensures { λ r. ⌜ (r ≡ answerOf (now (table .entry)) (now (file .entry)) (Question.Prepare position) (length (now (room .entry))) .refused) × (now (out .exit) ≡ written (planNumbers (answerOf (now (table .entry)) (now (file .entry)) (Question.Prepare position) (length (now (room .entry))) .plan)) (now (out .entry))) × (now (room .exit) ≡ roomAfter (now (table .entry)) (now (file .entry)) (Question.Prepare position) (length (now (room .entry)))) ⌝ }
 {
-    if out.len() < 9 {
-        return 255;
-    }
     let a = lookup::ask::ask(table, file, Question::Prepare(position as usize), room);
     let p = a.plan;
     let values = c_numbers::of_plan(p);
-    c_numbers::values::answer(a.refused as u64, &values, out)
+    c_numbers::values::write(&values, out);
+    a.refused as u64
 }
 
 // A place: first bit and bit count.
 fn answer_place(table: &[u8], file: &[u8], q: Question, room: &mut [u8], out: &mut [u64]) -> u64
-    ensures { λ r. ⌜ (r ≡ orShort (placeNumbers (answerOf (now (table .entry)) (now (file .entry)) q (length (now (room .entry))))) (now (out .entry)) (answerOf (now (table .entry)) (now (file .entry)) q (length (now (room .entry))) .refused)) × (now (out .exit) ≡ written (placeNumbers (answerOf (now (table .entry)) (now (file .entry)) q (length (now (room .entry))))) (now (out .entry))) × (now (room .exit) ≡ roomLeft 2 (now (out .entry)) (now (room .entry)) (roomAfter (now (table .entry)) (now (file .entry)) q (length (now (room .entry))))) ⌝ }
+    ensures { λ r. ⌜ (r ≡ answerOf (now (table .entry)) (now (file .entry)) q (length (now (room .entry))) .refused) × (now (out .exit) ≡ written (placeNumbers (answerOf (now (table .entry)) (now (file .entry)) q (length (now (room .entry))))) (now (out .entry))) × (now (room .exit) ≡ roomAfter (now (table .entry)) (now (file .entry)) q (length (now (room .entry)))) ⌝ }
 {
-    if out.len() < 2 {
-        return 255;
-    }
     let a = lookup::ask::ask(table, file, q, room);
     let values = c_numbers::of_place(a);
-    c_numbers::values::answer(a.refused as u64, &values, out)
+    c_numbers::values::write(&values, out);
+    a.refused as u64
 }
 
 // A view: the start and the length of the cell's part of the file, in bytes.
 fn answer_view(table: &[u8], file: &[u8], q: Question, room: &mut [u8], out: &mut [u64]) -> u64
-    ensures { λ r. ⌜ (r ≡ orShort (viewNumbers (answerOf (now (table .entry)) (now (file .entry)) q (length (now (room .entry))))) (now (out .entry)) (answerOf (now (table .entry)) (now (file .entry)) q (length (now (room .entry))) .refused)) × (now (out .exit) ≡ written (viewNumbers (answerOf (now (table .entry)) (now (file .entry)) q (length (now (room .entry))))) (now (out .entry))) × (now (room .exit) ≡ roomLeft 2 (now (out .entry)) (now (room .entry)) (roomAfter (now (table .entry)) (now (file .entry)) q (length (now (room .entry))))) ⌝ }
+    ensures { λ r. ⌜ (r ≡ answerOf (now (table .entry)) (now (file .entry)) q (length (now (room .entry))) .refused) × (now (out .exit) ≡ written (viewNumbers (answerOf (now (table .entry)) (now (file .entry)) q (length (now (room .entry))))) (now (out .entry))) × (now (room .exit) ≡ roomAfter (now (table .entry)) (now (file .entry)) q (length (now (room .entry)))) ⌝ }
 {
-    if out.len() < 2 {
-        return 255;
-    }
     let a = lookup::ask::ask(table, file, q, room);
     let values = c_numbers::of_view(a);
-    c_numbers::values::answer(a.refused as u64, &values, out)
+    c_numbers::values::write(&values, out);
+    a.refused as u64
 }
 
 // Place, of a row and a position: first bit and bit count, 2 numbers.
@@ -133,7 +140,7 @@ pub extern "C" fn hv_place(
     room: &mut [u8],
     out: &mut [u64],
 ) -> u64
-    ensures { λ r. ⌜ (r ≡ orShort (placeNumbers (answerOf (now (table .entry)) (now (file .entry)) (Question.Place row (Asked.Position position)) (length (now (room .entry))))) (now (out .entry)) (answerOf (now (table .entry)) (now (file .entry)) (Question.Place row (Asked.Position position)) (length (now (room .entry))) .refused)) × (now (out .exit) ≡ written (placeNumbers (answerOf (now (table .entry)) (now (file .entry)) (Question.Place row (Asked.Position position)) (length (now (room .entry))))) (now (out .entry))) × (now (room .exit) ≡ roomLeft 2 (now (out .entry)) (now (room .entry)) (roomAfter (now (table .entry)) (now (file .entry)) (Question.Place row (Asked.Position position)) (length (now (room .entry))))) ⌝ }
+    ensures { λ r. ⌜ (r ≡ answerOf (now (table .entry)) (now (file .entry)) (Question.Place row (Asked.Position position)) (length (now (room .entry))) .refused) × (now (out .exit) ≡ written (placeNumbers (answerOf (now (table .entry)) (now (file .entry)) (Question.Place row (Asked.Position position)) (length (now (room .entry))))) (now (out .entry))) × (now (room .exit) ≡ roomAfter (now (table .entry)) (now (file .entry)) (Question.Place row (Asked.Position position)) (length (now (room .entry)))) ⌝ }
 {
     answer_place(
         table,
@@ -154,7 +161,7 @@ pub extern "C" fn hv_place_planned(
     room: &mut [u8],
     out: &mut [u64],
 ) -> u64
-    ensures { λ r. ⌜ (r ≡ ifNine (now (plan .entry)) 255 (orShort (placeNumbers (answerOf (now (table .entry)) (now (file .entry)) (Question.Place row (Asked.Planned (planFrom (now (plan .entry))))) (length (now (room .entry))))) (now (out .entry)) (answerOf (now (table .entry)) (now (file .entry)) (Question.Place row (Asked.Planned (planFrom (now (plan .entry))))) (length (now (room .entry))) .refused))) × (now (out .exit) ≡ ifNine (now (plan .entry)) (now (out .entry)) (written (placeNumbers (answerOf (now (table .entry)) (now (file .entry)) (Question.Place row (Asked.Planned (planFrom (now (plan .entry))))) (length (now (room .entry))))) (now (out .entry)))) × (now (room .exit) ≡ ifNine (now (plan .entry)) (now (room .entry)) (roomLeft 2 (now (out .entry)) (now (room .entry)) (roomAfter (now (table .entry)) (now (file .entry)) (Question.Place row (Asked.Planned (planFrom (now (plan .entry))))) (length (now (room .entry)))))) ⌝ }
+    ensures { λ r. ⌜ (r ≡ ifNine (now (plan .entry)) 255 (answerOf (now (table .entry)) (now (file .entry)) (Question.Place row (Asked.Planned (planFrom (now (plan .entry))))) (length (now (room .entry))) .refused)) × (now (out .exit) ≡ ifNine (now (plan .entry)) (now (out .entry)) (written (placeNumbers (answerOf (now (table .entry)) (now (file .entry)) (Question.Place row (Asked.Planned (planFrom (now (plan .entry))))) (length (now (room .entry))))) (now (out .entry)))) × (now (room .exit) ≡ ifNine (now (plan .entry)) (now (room .entry)) (roomAfter (now (table .entry)) (now (file .entry)) (Question.Place row (Asked.Planned (planFrom (now (plan .entry))))) (length (now (room .entry))))) ⌝ }
 {
     if plan.len() < 9 {
         return 255;
@@ -179,7 +186,7 @@ pub extern "C" fn hv_view(
     room: &mut [u8],
     out: &mut [u64],
 ) -> u64
-    ensures { λ r. ⌜ (r ≡ orShort (viewNumbers (answerOf (now (table .entry)) (now (file .entry)) (Question.View row (Asked.Position position)) (length (now (room .entry))))) (now (out .entry)) (answerOf (now (table .entry)) (now (file .entry)) (Question.View row (Asked.Position position)) (length (now (room .entry))) .refused)) × (now (out .exit) ≡ written (viewNumbers (answerOf (now (table .entry)) (now (file .entry)) (Question.View row (Asked.Position position)) (length (now (room .entry))))) (now (out .entry))) × (now (room .exit) ≡ roomLeft 2 (now (out .entry)) (now (room .entry)) (roomAfter (now (table .entry)) (now (file .entry)) (Question.View row (Asked.Position position)) (length (now (room .entry))))) ⌝ }
+    ensures { λ r. ⌜ (r ≡ answerOf (now (table .entry)) (now (file .entry)) (Question.View row (Asked.Position position)) (length (now (room .entry))) .refused) × (now (out .exit) ≡ written (viewNumbers (answerOf (now (table .entry)) (now (file .entry)) (Question.View row (Asked.Position position)) (length (now (room .entry))))) (now (out .entry))) × (now (room .exit) ≡ roomAfter (now (table .entry)) (now (file .entry)) (Question.View row (Asked.Position position)) (length (now (room .entry)))) ⌝ }
 {
     answer_view(
         table,
@@ -200,7 +207,7 @@ pub extern "C" fn hv_view_planned(
     room: &mut [u8],
     out: &mut [u64],
 ) -> u64
-    ensures { λ r. ⌜ (r ≡ ifNine (now (plan .entry)) 255 (orShort (viewNumbers (answerOf (now (table .entry)) (now (file .entry)) (Question.View row (Asked.Planned (planFrom (now (plan .entry))))) (length (now (room .entry))))) (now (out .entry)) (answerOf (now (table .entry)) (now (file .entry)) (Question.View row (Asked.Planned (planFrom (now (plan .entry))))) (length (now (room .entry))) .refused))) × (now (out .exit) ≡ ifNine (now (plan .entry)) (now (out .entry)) (written (viewNumbers (answerOf (now (table .entry)) (now (file .entry)) (Question.View row (Asked.Planned (planFrom (now (plan .entry))))) (length (now (room .entry))))) (now (out .entry)))) × (now (room .exit) ≡ ifNine (now (plan .entry)) (now (room .entry)) (roomLeft 2 (now (out .entry)) (now (room .entry)) (roomAfter (now (table .entry)) (now (file .entry)) (Question.View row (Asked.Planned (planFrom (now (plan .entry))))) (length (now (room .entry)))))) ⌝ }
+    ensures { λ r. ⌜ (r ≡ ifNine (now (plan .entry)) 255 (answerOf (now (table .entry)) (now (file .entry)) (Question.View row (Asked.Planned (planFrom (now (plan .entry))))) (length (now (room .entry))) .refused)) × (now (out .exit) ≡ ifNine (now (plan .entry)) (now (out .entry)) (written (viewNumbers (answerOf (now (table .entry)) (now (file .entry)) (Question.View row (Asked.Planned (planFrom (now (plan .entry))))) (length (now (room .entry))))) (now (out .entry)))) × (now (room .exit) ≡ ifNine (now (plan .entry)) (now (room .entry)) (roomAfter (now (table .entry)) (now (file .entry)) (Question.View row (Asked.Planned (planFrom (now (plan .entry))))) (length (now (room .entry))))) ⌝ }
 {
     if plan.len() < 9 {
         return 255;

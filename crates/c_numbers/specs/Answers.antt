@@ -1,9 +1,8 @@
 -- What the functions for C give and write.
 use Prim.Native.Nat.{ℕ}
-use mathlib.Core.List.{List, [], _∷_}
+use mathlib.Core.List.{List, [], _∷_, _++_}
 use mathlib.Core.Bool.{cond}
-use lib.ListN.{length, getD}
-use lib.Seq.{paste}
+use lib.ListN.{length, getD, take, drop}
 use lib.Dec.{eqb, ltb}
 use Rattle.table_rules.specs.declared.Column.{Column}
 use Rattle.table_rules.specs.ColumnDesc.{noColumn}
@@ -13,17 +12,9 @@ use Rattle.table_rules.specs.ColumnSet.{noManager, noBinding}
 use Rattle.table_rules.specs.declared.Description.{Description}
 use Rattle.c_numbers.specs.Numbers.{flagOf, oneColumn, oneManager}
 
--- the number given: 255 where `out` is too short for the values
-unfoldable pub orShort : List ℕ → List ℕ → ℕ → ℕ
-orShort values out number = cond (ltb (length out) (length values)) 255 number
-
--- `out` afterwards: the values written over its first numbers, or nothing written where it is too short
+-- `out` afterwards: the first values, as many as it holds, then what stood behind them
 unfoldable pub written : List ℕ → List ℕ → List ℕ
-written values out = cond (ltb (length out) (length values)) out (paste out 0 values (length values))
-
--- the room afterwards: untouched where `out` is too short for n numbers
-unfoldable pub roomLeft : ℕ → List ℕ → List ℕ → List ℕ → List ℕ
-roomLeft n out before after = cond (ltb (length out) n) before after
+written values out = take (length out) values ++ drop (length values) out
 
 -- the refusal so far, or 8 where there is no such position
 unfoldable pub missing : ℕ → ℕ → ℕ → ℕ

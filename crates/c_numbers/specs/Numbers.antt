@@ -1,4 +1,4 @@
--- The numbers that C gets for a column, a manager, a plan, a place or a view, and a plan from its numbers.
+-- The numbers that C gets for a column, a manager, a check, a plan, a place or a view, and a plan from its numbers.
 use Prim.Native.Nat.{ℕ, _/_}
 use mathlib.Core.List.{List, [], _∷_}
 use mathlib.Core.Bool.{Bool, true, false}
@@ -29,6 +29,10 @@ oneColumn c b =
 -- sequence number, kind, name start and length
 abbrev pub oneManager : Manager → List ℕ
 oneManager m = m .number ∷ kindNumber (m .kind) ∷ m .start ∷ m .len ∷ []
+
+-- File check: the bucket size of the file
+abbrev pub checkNumbers : Answer → List ℕ
+checkNumbers a = a .size ∷ []
 
 -- "position, sequence number, data type, element count, cell bits, set, offset, rows per bucket and bucket size"
 abbrev pub planNumbers : Plan → List ℕ

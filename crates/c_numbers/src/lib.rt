@@ -1,10 +1,10 @@
-// Columns, managers, plans, places and views as the numbers that C gets, and a plan from its numbers.
+// Columns, managers, checks, plans, places and views as the numbers that C gets, and a plan from its numbers.
 pub mod values;
 
 ghost use mathlib.Core.Path.{_≡_};
 ghost use Prim.Native.Nat.{_≤_};
 ghost use lib.ListN.{length};
-ghost use Rattle.c_numbers.specs.Numbers.{flagOf, kindNumber, oneColumn, oneManager, planNumbers, placeNumbers, viewNumbers, planFrom};
+ghost use Rattle.c_numbers.specs.Numbers.{flagOf, kindNumber, oneColumn, oneManager, checkNumbers, planNumbers, placeNumbers, viewNumbers, planFrom};
 use lookup_rules::Answer;
 use lookup_rules::Plan;
 use table_rules::Binding;
@@ -58,6 +58,13 @@ pub fn of_manager(m: Manager) -> [u64; 4]
     let kind = m.kind;
     let number = kind_number(kind);
     [m.number as u64, number, m.start as u64, m.len as u64]
+}
+
+// A check: the file's bucket size.
+pub fn of_check(a: Answer) -> [u64; 1]
+    ensures { λ r. ⌜ r ≡ checkNumbers a ⌝ }
+{
+    [a.size as u64]
 }
 
 pub fn of_plan(p: Plan) -> [u64; 9]

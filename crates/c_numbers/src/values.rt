@@ -2,7 +2,7 @@
 ghost use mathlib.Core.Path.{_≡_};
 ghost use Prim.Native.Nat.{_≤_};
 ghost use Rattle.table_rules.specs.Table.{positionRefusal, positionValue};
-ghost use Rattle.c_numbers.specs.Answers.{missing, pickedColumn, pickedBinding, pickedManager, orShort, written};
+ghost use Rattle.c_numbers.specs.Answers.{missing, pickedColumn, pickedBinding, pickedManager, written};
 use table_rules::Binding;
 use table_rules::Column;
 use table_rules::Manager;
@@ -60,19 +60,16 @@ pub fn pick_manager(managers: [Manager; 16], count: usize, position: u64) -> Man
     table_column_set::data_managers::no_manager()
 }
 
-// Writes the values into `out` and gives the number; 255, and nothing is written, where `out` is too short for them.
-pub fn answer(number: u64, values: &[u64], out: &mut [u64]) -> u64
-    ensures { λ r. ⌜ (r ≡ orShort (now (values .entry)) (now (out .entry)) number) × (now (out .exit) ≡ written (now (values .entry)) (now (out .entry))) ⌝ }
+// Writes the values into `out`, as many as it holds.
+pub fn write(values: &[u64], out: &mut [u64])
+    ensures { λ _. ⌜ now (out .exit) ≡ written (now (values .entry)) (now (out .entry)) ⌝ }
 {
-    if out.len() < values.len() {
-        return 255;
-    }
+    let n = bytes_at::least(values.len(), out.len());
     let mut i = 0;
-    while i < values.len() {
+    while i < n {
         out[i] = values[i];
         i += 1;
     }
-    number
 }
 
 pub fn position_refusal(p: Position) -> u64

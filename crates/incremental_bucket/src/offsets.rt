@@ -32,7 +32,7 @@ pub fn read_offsets(s: &[u8], c: Cursor, n: usize, limit: usize, bytes: usize, h
         return Value { value: 0, next: c };
     }
     let room = aipsio::left(c) / 4;
-    let m = crate::values::least(n, room);
+    let m = bytes_at::least(n, room);
     let mut at = c.at;
     let mut offset = 0;
     let mut i = 0;

@@ -20,16 +20,6 @@ pub fn choose(test: bool, a: usize, b: usize) -> usize
     b
 }
 
-// The lesser of two numbers.
-pub fn least(a: usize, b: usize) -> usize
-    ensures { λ r. ⌜ (r ≤ a) × (r ≤ b) × (r < a → r ≡ b) ⌝ }
-{
-    if a < b {
-        return a;
-    }
-    b
-}
-
 // Nothing was read: the field that begins at `from` is refused with the number.
 pub fn refuse(c: Cursor, from: usize, number: usize) -> Value
     ensures { λ r. ⌜ r ≡ refusedValue c from number ⌝ }
@@ -75,7 +65,7 @@ pub fn read_starts(s: &[u8], c: Cursor, n: usize, rows: usize, row: usize) -> St
         };
     }
     let room = aipsio::left(c) / 4;
-    let m = least(n, room);
+    let m = bytes_at::least(n, room);
     let mut at = c.at;
     let mut last = 0;
     let mut hit = 0;

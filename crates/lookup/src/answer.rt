@@ -59,7 +59,8 @@ fn told(column: bool, p: Plan) -> Plan
     lookup_question::reading::no_plan()
 }
 
-// "A refusal carries its number and zeros." A check answers no plan, and only a place or a view has bits.
+// "A refusal carries its number and zeros." Every other answer has the file's bucket size; a check answers no plan, and only a
+// place or a view has bits.
 pub fn answer(r: Request, s: Staged, first: usize) -> Answer
     ensures { λ a. ⌜ a ≡ answerWith r s first ⌝ }
 {
@@ -67,6 +68,7 @@ pub fn answer(r: Request, s: Staged, first: usize) -> Answer
     if refused != 0 {
         return Answer {
             refused: refused,
+            size: 0,
             plan: lookup_question::reading::no_plan(),
             first: 0,
             count: 0,
@@ -76,6 +78,7 @@ pub fn answer(r: Request, s: Staged, first: usize) -> Answer
     if r.cell {
         return Answer {
             refused: 0,
+            size: p.size,
             plan: told(r.column, p),
             first: first,
             count: p.bits,
@@ -83,6 +86,7 @@ pub fn answer(r: Request, s: Staged, first: usize) -> Answer
     }
     Answer {
         refused: 0,
+        size: p.size,
         plan: told(r.column, p),
         first: 0,
         count: 0,

@@ -31,7 +31,7 @@ unfolding answerFor
 answer-refused t f r l = answered-first _ _ _
 
 pub answered-is : (r : Request) (s : Staged) (b : Bits) → s .refused ≡ 0
-    → answered r s b ≡ record { refused = 0; plan = cond (r .column) (s .plan) noPlan; first = cond (r .cell) b noBits .first; count = cond (r .cell) b noBits .count }
+    → answered r s b ≡ record { refused = 0; size = s .plan .size; plan = cond (r .column) (s .plan) noPlan; first = cond (r .cell) b noBits .first; count = cond (r .cell) b noBits .count }
 unfolding answered
 answered-is r s b h = rw (eq-eqb (s .refused) 0 h)
 
@@ -117,7 +117,7 @@ pub record Passed (t f : List ℕ) (r : Request) (l : ℕ) : Type 0 where
   pub held : targetFor t f r l .refused ≡ 0
   pub checked : checkedFor t f r l .refused ≡ 0
   pub row : T (isBelow r (describedAs t .rows))
-  pub same : answerFor t f r l ≡ record { refused = 0; plan = cond (r .column) (stagesOf t f r l .plan) noPlan; first = cellFor t f r l .first; count = cellFor t f r l .count }
+  pub same : answerFor t f r l ≡ record { refused = 0; size = stagesOf t f r l .plan .size; plan = cond (r .column) (stagesOf t f r l .plan) noPlan; first = cellFor t f r l .first; count = cellFor t f r l .count }
 
 pub passed : (t f : List ℕ) (r : Request) (l : ℕ) → answerFor t f r l .refused ≡ 0 → Passed t f r l
 unfolding answerFor

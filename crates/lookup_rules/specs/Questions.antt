@@ -217,14 +217,15 @@ placeIn d incremental sequence f row position =
 abbrev pub noBits : Bits
 noBits = record { first = 0; count = 0 }
 
--- "A refusal carries its number and zeros." A check answers no plan, and only a place or a view has bits.
+-- "A refusal carries its number and zeros." Every other answer has the file's bucket size; a check answers no plan, and only a place
+-- or a view has bits.
 unfoldable pub answered : Request → Staged → Bits → Answer
 answered r s b =
     let plan = cond (r .column) (s .plan) noPlan in
     let bits = cond (r .cell) b noBits in
     cond (eqb (s .refused) 0)
-    (record { refused = 0; plan = plan; first = bits .first; count = bits .count })
-    (record { refused = s .refused; plan = noPlan; first = 0; count = 0 })
+    (record { refused = 0; size = s .plan .size; plan = plan; first = bits .first; count = bits .count })
+    (record { refused = s .refused; size = 0; plan = noPlan; first = 0; count = 0 })
 
 unfoldable pub answerFor : List ℕ → List ℕ → Request → ℕ → Answer
 answerFor t f r l =

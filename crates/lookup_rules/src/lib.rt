@@ -75,9 +75,10 @@ pub struct Staged {
     pub first: usize,
 }
 
-// The number and zeros; or 0, the plan, and for a place or a view the first bit and the bit count.
+// The number and zeros; or 0, the file's bucket size, the plan, and for a place or a view the first bit and the bit count.
 pub struct Answer {
     pub refused: usize,
+    pub size: usize,
     pub plan: Plan,
     pub first: usize,
     pub count: usize,

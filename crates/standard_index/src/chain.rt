@@ -1,18 +1,12 @@
 // The index text of a StandardStMan file, gathered from its index buckets into the lent room (document 01, "StandardStMan", Index).
 ghost use mathlib.Core.Path.{_≡_};
-ghost use Prim.Native.Nat.{min, _≤_};
+ghost use Prim.Native.Nat.{_≤_};
 ghost use lib.ListN.{length, take, drop};
 ghost use mathlib.Core.Bool.{true};
 ghost use mathlib.Core.List.{_++_};
 ghost use Rattle.buckets.specs.Area.{Area};
 ghost use Rattle.standard_rules.specs.Index.{chainText, chainHolds, offsetOk, offsetText, indexOk, indexText};
 ghost use Rattle.standard_rules.specs.Check.{padded};
-
-fn least(a: usize, b: usize) -> usize
-    ensures { λ r. ⌜ r ≡ min a b ⌝ }
-{
-    if a < b { a } else { b }
-}
 
 // Copies n bytes of the text in a chain of count buckets to the front of the room, and tells if the chain is right and holds them.
 // A chain of more buckets than the file has is wrong, so that the loop ends soon whatever count is stated.
@@ -45,7 +39,7 @@ fn gather_chain(
         if next != again {
             return false;
         }
-        let m = least(n - at, size - 8);
+        let m = bytes_at::least(n - at, size - 8);
         bytes_at::copy(f, p + 8, m, room, at);
         at += m;
         b = next;

@@ -5,10 +5,15 @@ use Rattle.c_api.proofs.hv_column.Statement.{statement}
 use Rattle.c_api.proofs.hv_column.Tie as tie
 
 returns : tie.Need-returns
-returns c = (
-  rw (← (c .before .before .before .before .before .before .before .before .before .before .before .describe .ensures .0), ← (c .before .before .before .before .before .before .before .before .pick-column .ensures), ← (c .before .before .before .before .before .before .before .pick-binding .ensures), ← (c .before .before .before .before .before .before .refusal .ensures), ← (c .before .before .before .before .before .of-column .ensures)) (c .before .before .answer .ensures .0),
-  rw (← (c .before .before .before .before .before .before .before .before .before .before .before .describe .ensures .0), ← (c .before .before .before .before .before .before .before .before .pick-column .ensures), ← (c .before .before .before .before .before .before .before .pick-binding .ensures), ← (c .before .before .before .before .before .of-column .ensures)) (c .before .before .answer .ensures .1),
-)
+returns c =
+    let d = c .before .before .before .before .before .before .before .before .before .before .before .describe .ensures .0 in
+    let column = c .before .before .before .before .before .before .before .before .pick-column .ensures in
+    let binding = c .before .before .before .before .before .before .before .pick-binding .ensures in
+    let v = c .before .before .before .before .before .of-column .ensures in
+    let told = c .before .before .write .ensures in (
+      rw (← d) (c .before .before .before .before .before .before .refusal .ensures),
+      rw (← d, ← column, ← binding, ← v) told,
+    )
 
 pub hv-column-spec : {M : Type 1} → statement M
 hv-column-spec =

@@ -5,10 +5,13 @@ use Rattle.c_api.proofs.hv_column_by_name.Statement.{statement}
 use Rattle.c_api.proofs.hv_column_by_name.Tie as tie
 
 returns : tie.Need-returns
-returns c = (
-  rw (← (c .before .before .before .before .before .before .before .column-by-name .ensures), ← (c .before .before .before .before .before .before .position-refusal .ensures), ← (c .before .before .before .before .before .position-number .ensures)) (c .before .before .answer .ensures .0),
-  rw (← (c .before .before .before .before .before .before .before .column-by-name .ensures), ← (c .before .before .before .before .before .position-number .ensures)) (c .before .before .answer .ensures .1),
-)
+returns c =
+    let found = c .before .before .before .before .before .before .before .column-by-name .ensures in
+    let v = c .before .before .before .before .before .position-number .ensures in
+    let told = c .before .before .write .ensures in (
+      rw (← found) (c .before .before .before .before .before .before .position-refusal .ensures),
+      rw (← found, ← v) told,
+    )
 
 pub hv-column-by-name-spec : {M : Type 1} → statement M
 hv-column-by-name-spec =

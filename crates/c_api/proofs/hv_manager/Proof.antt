@@ -5,10 +5,14 @@ use Rattle.c_api.proofs.hv_manager.Statement.{statement}
 use Rattle.c_api.proofs.hv_manager.Tie as tie
 
 returns : tie.Need-returns
-returns c = (
-  rw (← (c .before .before .before .before .before .before .before .before .before .describe .ensures .0), ← (c .before .before .before .before .before .before .before .pick-manager .ensures), ← (c .before .before .before .before .before .before .refusal .ensures), ← (c .before .before .before .before .before .of-manager .ensures)) (c .before .before .answer .ensures .0),
-  rw (← (c .before .before .before .before .before .before .before .before .before .describe .ensures .0), ← (c .before .before .before .before .before .before .before .pick-manager .ensures), ← (c .before .before .before .before .before .of-manager .ensures)) (c .before .before .answer .ensures .1),
-)
+returns c =
+    let d = c .before .before .before .before .before .before .before .before .before .describe .ensures .0 in
+    let manager = c .before .before .before .before .before .before .before .pick-manager .ensures in
+    let v = c .before .before .before .before .before .of-manager .ensures in
+    let told = c .before .before .write .ensures in (
+      rw (← d) (c .before .before .before .before .before .before .refusal .ensures),
+      rw (← d, ← manager, ← v) told,
+    )
 
 pub hv-manager-spec : {M : Type 1} → statement M
 hv-manager-spec =

@@ -224,17 +224,17 @@ module _ (y : List ℕ) (s : Staged) (r : Request) where
 
 -- ---- `answer`
 module _ (r : Request) (s : Staged) (first : ℕ) where
-  pub answer-refused : {p : Plan} → p ≡ noPlan → (s .refused ≡ 0 → ⊥) → record { refused = s .refused; plan = p; first = 0; count = 0 } ≡ answerWith r s first
+  pub answer-refused : {p : Plan} → p ≡ noPlan → (s .refused ≡ 0 → ⊥) → record { refused = s .refused; size = 0; plan = p; first = 0; count = 0 } ≡ answerWith r s first
   unfolding answered
   answer-refused e n = rw (ne-eqb (s .refused) 0 n, e)
 
   pub answer-cell : {p : Plan} → s .refused ≡ 0 → r .cell ≡ true → p ≡ cond (r .column) (s .plan) noPlan
-      → record { refused = 0; plan = p; first = first; count = s .plan .bits } ≡ answerWith r s first
+      → record { refused = 0; size = s .plan .size; plan = p; first = first; count = s .plan .bits } ≡ answerWith r s first
   unfolding answered
   answer-cell z k e = rw (eq-eqb (s .refused) 0 z, k, e)
 
   pub answer-none : {p : Plan} → s .refused ≡ 0 → r .cell ≡ false → p ≡ cond (r .column) (s .plan) noPlan
-      → record { refused = 0; plan = p; first = 0; count = 0 } ≡ answerWith r s first
+      → record { refused = 0; size = s .plan .size; plan = p; first = 0; count = 0 } ≡ answerWith r s first
   unfolding answered
   answer-none z k e = rw (eq-eqb (s .refused) 0 z, k, e)
 
@@ -251,7 +251,7 @@ same-bits p e k = rw (e, k)
 answered-same : (r : Request) (s : Staged) {p p′ : Bits} → (s .refused ≡ 0 → T (r .cell) → p ≡ p′) → answered r s p ≡ answered r s p′
 unfolding answered
 answered-same r s {p} {p′} h = elim (ℕ-discrete (s .refused) 0) [
-  | yes e ↦ rw (eq-eqb (s .refused) 0 e) (ap (λ (k : Bits). record { refused = 0; plan = cond (r .column) (s .plan) noPlan; first = k .first; count = k .count }) (same-cell (r .cell) p p′ noBits (h e)))
+  | yes e ↦ rw (eq-eqb (s .refused) 0 e) (ap (λ (k : Bits). record { refused = 0; size = s .plan .size; plan = cond (r .column) (s .plan) noPlan; first = k .first; count = k .count }) (same-cell (r .cell) p p′ noBits (h e)))
   | no n ↦ rw (ne-eqb (s .refused) 0 n)
 ]
 

@@ -1,24 +1,20 @@
--- `c_numbers::values::answer` meets its contract. The loop's invariant: i values are written.
-use Prim.Native.Nat.{_-_}
+-- `c_numbers::values::write` meets its contract. The loop's invariant: i of the n values are written, and n are as many as `out` holds.
+use Prim.Native.Nat.{_-_, _≤_, _<_}
+use mathlib.Core.Path.{_≡_, _∙_}
 use native.Mathlib.Nat.{zero-add}
 use native.Mathlib.Omega.{arith}
 use borrow.Author.Needs.{needs}
-use borrow.Author.Tests.{lt-ltb, le-ltb}
 use lib.ListN.{length}
 use Rattle.bytes_at.proofs.Copied.{Copied, copied-start, copied-again, copied-end}
-use Rattle.c_numbers.specs.Answers.{orShort, written}
-use Rattle.c_numbers.proofs.values.answer.Statement.{statement}
-use Rattle.c_numbers.proofs.values.answer.Tie as tie
+use Rattle.c_numbers.proofs.Written.{whole}
+use Rattle.c_numbers.proofs.values.write.Statement.{statement}
+use Rattle.c_numbers.proofs.values.write.Tie as tie
 
 abbrev Inv-loop : tie.InvT-loop
-Inv-loop number values out₀ i₀ out i = Copied values 0 (length values) out₀ out 0 i
+Inv-loop values out₀ n i₀ out i = Copied values 0 n out₀ out 0 i
 
 abbrev μ-loop : tie.MeasureT-loop
-μ-loop number values out₀ i₀ out i = length values - i
-
-returns : tie.Need-returns Inv-loop μ-loop
-unfolding orShort written
-returns c = let h = lt-ltb _ _ (c .if1 .taken) in (rw h, rw h)
+μ-loop values out₀ n i₀ out i = n - i
 
 loop-holds : tie.Need-loop-holds Inv-loop μ-loop
 loop-holds c = copied-start _ _ _ _ _
@@ -26,19 +22,16 @@ loop-holds c = copied-start _ _ _ _ _
 loop-again : tie.Need-loop-again Inv-loop μ-loop
 loop-again c = simp zero-add at (copied-again (c .before .before .loop .inv) (omega arith) (omega arith) (omega arith))
 
-returns-2 : tie.Need-returns-2 Inv-loop μ-loop
-unfolding orShort written
-returns-2 c =
-    let h = le-ltb _ _ (c .before .before .if1 .left) in
-    (rw h, rw h (copied-end (c .before .loop .inv) (omega arith)))
+returns : tie.Need-returns Inv-loop μ-loop
+returns c = copied-end (c .before .loop .inv) (omega arith) ∙ whole _ _ _ (c .before .before .least .ensures .1)
 
-pub answer-spec : {M : Type 1} → statement M
-answer-spec =
+pub write-spec : {M : Type 1} → statement M
+write-spec =
     tie.close
     (tie.spec
     Inv-loop
     μ-loop
-    returns
+    (λ c κs. search needs)
     loop-holds
     (λ c. search needs)
     (λ c. search needs)
@@ -48,4 +41,4 @@ answer-spec =
     (λ c. search needs)
     loop-again
     (λ c. search needs)
-    returns-2)
+    returns)

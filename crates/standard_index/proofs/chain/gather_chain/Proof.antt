@@ -35,7 +35,7 @@ gather-chain-spec =
     (λ c. search needs)
     (λ c. search needs)
     (λ c. search needs)
-    (λ c. gathered-more (c .before .before .before .before .before .before .before .before .before .before .before .loop .inv) (c .before .before .before .before .before .before .before .before .before .before .before .before .before .before .before .pre .0) (omega arith) (omega arith) (c .before .before .before .before .before .before .before .before .start-of .ensures .0) (c .before .before .before .before .before .before .before .word .ensures .0) (c .before .before .before .before .before .if3 .left ∙ c .before .before .before .before .before .before .word2 .ensures .0) (c .before .before .before .before .least .ensures) (c .before .before .copy .ensures) (c .before .before .copy .kept .1 .1 .1 .0))
+    (λ c. gathered-more (c .before .before .before .before .before .before .before .before .before .before .before .loop .inv) (c .before .before .before .before .before .before .before .before .before .before .before .before .before .before .before .pre .0) (omega arith) (omega arith) (c .before .before .before .before .before .before .before .before .start-of .ensures .0) (c .before .before .before .before .before .before .before .word .ensures .0) (c .before .before .before .before .before .if3 .left ∙ c .before .before .before .before .before .before .word2 .ensures .0) (c .before .before .before .before .least .ensures .0) (c .before .before .copy .ensures) (c .before .before .copy .kept .1 .1 .1 .0))
     (λ c. search needs)
     (λ c. out-end (c .before .before .loop .inv) (omega arith) (c .if4 .taken))
     (λ c. search needs)
