@@ -5,8 +5,8 @@
  *
  * Bytes. The caller lends the whole of table.dat and of the file of one data manager, table.f<i>, in memory or mapped, and
  * nothing may change or shorten them before the function returns. A run of bytes or numbers is a pointer and the number of
- * its elements. No pointer is null, not even one to 0 elements: lend the address of any object then. `room` and `out` are
- * written and share no byte with each other or with anything else that is lent.
+ * its elements; a run of 0 elements may have any pointer, a null one too, and no other is null. `room` and `out` are written
+ * and share no byte with each other or with anything else that is lent.
  *
  * Answers. A function gives 0 and writes the numbers of its answer into `out`, or it gives the number of a refusal (enum
  * hv_number) and writes as many zeros. If `out` is shorter than the answer, it gets the first numbers of it, as many as it

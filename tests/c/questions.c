@@ -1,6 +1,6 @@
 /*
  * Asks every question of include/helvidrane.h on the samples `small` and `arrays`: accepted, refused with each number, and
- * with arrays that are too short. The answers are those of document 01 and of the independent model. It is C and C++.
+ * with arrays that are too short. The answers are those of RULES.md and of the independent model. It is C and C++.
  *
  * questions SAMPLES: exits with 1 at the first difference.
  */
@@ -178,7 +178,7 @@ static void set_plan(const uint64_t *values)
     memcpy(plan, values, sizeof plan);
 }
 
-/* Document 01's small file: buckets of 64 bytes, the index text of 134 bytes in buckets 1, 3 and 4. */
+/* The small file (RULES.md 11.1): buckets of 64 bytes, the index text of 134 bytes in buckets 1, 3 and 4. */
 static void load_small(const char *samples)
 {
     read_file(&table, samples, "small", "table.dat");

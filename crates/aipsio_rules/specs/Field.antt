@@ -1,4 +1,4 @@
--- Document 01, "AipsIO", and Note 260, section 2: fields, read through a cursor that keeps its first refusal.
+-- RULES.md 3.1 to 3.4, and Note 260, section 2: fields, read through a cursor that keeps its first refusal.
 use Prim.Native.Nat.{ℕ, _+_, _*_, _-_, _/_}
 use mathlib.Core.List.{List}
 use mathlib.Core.Bool.{Bool, cond, _&&_}

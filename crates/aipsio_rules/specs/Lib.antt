@@ -1,3 +1,3 @@
--- Document 01, "AipsIO": fields, then objects.
+-- RULES.md 3, AipsIO: fields, then objects.
 pub mod Field
 pub mod Object

@@ -1,4 +1,4 @@
--- Document 01, "AipsIO", and Note 260, sections 2 to 2.4: objects.
+-- RULES.md 3.5 to 3.7, and Note 260, sections 2 to 2.4: objects.
 use Prim.Native.Nat.{ℕ, _+_, _*_}
 use mathlib.Core.List.{List}
 use mathlib.Core.Bool.{cond}
@@ -60,7 +60,7 @@ blockAt s c n size = do
   d ← closed e c
   settled (k .at) d
 
--- a SimpleOrderedMap of Int to Int (000, 2.3): default value, number of entries, increment, pairs
+-- a SimpleOrderedMap of Int to Int (Note 260, 2.3): default value, number of entries, increment, pairs
 unfoldable pub mapAt : List ℕ → Cursor → Cursor
 mapAt s c = do
   o ← opened s c (bytes "SimpleOrderedMap") 1 1
@@ -74,7 +74,7 @@ mapAt s c = do
 abbrev pub axisWidth : ℕ → Width
 axisWidth version = cond (eqb version 2) Eight Four
 
--- an IPosition that is "read and not judged" (000, 2.2)
+-- an IPosition that is "read and not judged" (Note 260, 2.2)
 unfoldable pub ipositionAt : List ℕ → Cursor → Cursor
 ipositionAt s c = do
   o ← opened s c (bytes "IPosition") 1 2

@@ -1,4 +1,4 @@
-// The rules of AipsIO (document 01, "AipsIO"; Note 260, 2), as definitions over the bytes: `specs/`. Here stand the types that they speak
+// The rules of AipsIO (RULES.md 3; Note 260, 2), as definitions over the bytes: `specs/`. Here stand the types that they speak
 // of. The code that follows them is in `aipsio`.
 
 // Where the next field begins, where the enclosing object ends, whether the byte order is big endian (AipsIO's own), and the

@@ -1,4 +1,4 @@
--- How the code decides `allApart`: with a table of marks, one for each bucket that was met. No rule of document 01.
+-- How the code decides `allApart`: with a table of marks, one for each bucket that was met. No rule of RULES.md.
 use mathlib.Core.Bool.{Bool, _&&_, true}
 use mathlib.Core.List.{List, [], _∷_}
 use Prim.Native.Nat.{ℕ}

@@ -1,4 +1,4 @@
-// What the files of both managers share (document 01, "StandardStMan" and "IncrementalStMan"): where the header's container ends,
+// What the files of both managers share (RULES.md 5.1, 5.2 and 6.1): where the header's container ends,
 // the header's Bool, and the file's length.
 ghost use mathlib.Core.Path.{_≡_};
 ghost use Prim.Native.Nat.{_≤_};

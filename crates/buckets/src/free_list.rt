@@ -1,4 +1,4 @@
-// The free list of a data manager's file (document 01, "StandardStMan" and "IncrementalStMan").
+// The free list of a data manager's file (RULES.md 5.5).
 ghost use mathlib.Core.Path.{_≡_};
 ghost use Rattle.buckets.specs.Area.{Area};
 ghost use Rattle.standard_rules.specs.Index.{freeOk};

@@ -1,4 +1,4 @@
-// Buckets of a data manager's file: where one starts (document 01, "StandardStMan" and "IncrementalStMan").
+// Buckets of a data manager's file: where one starts (RULES.md 5.2).
 pub mod file;
 pub mod free_list;
 pub mod marks;

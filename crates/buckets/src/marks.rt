@@ -1,5 +1,5 @@
 // Bucket numbers that are in range and all different, decided by a table with a mark for each bucket that was met
-// (document 01, "StandardStMan", Map, and "IncrementalStMan"). A table starts as zeros. Where a function answers false,
+// (RULES.md 5.6 and 6.3). A table starts as zeros. Where a function answers false,
 // nothing is said of the table.
 ghost use Prim.Native.Nat.{_≤_, _+_, _*_};
 ghost use mathlib.Core.Path.{_≡_};

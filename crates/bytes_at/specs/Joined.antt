@@ -1,4 +1,4 @@
--- How the code holds a name of the source: in two numbers, its first bytes and its last. No rule of document 01.
+-- How the code holds a name of the source: in two numbers, its first bytes and its last. No rule of RULES.md.
 use Prim.Native.Nat.{ℕ, _/_, _^_, _-_, _+_, _≤_}
 use mathlib.Core.List.{List, _++_}
 use lib.ListN.{take}

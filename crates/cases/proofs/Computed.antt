@@ -1,4 +1,4 @@
--- Cases A to L come out as document 01 says, by computing. Assumes nothing.
+-- Cases A to L come out as RULES.md 11.2 says, by computing. Assumes nothing.
 use mathlib.Core.Path.{refl}
 use Rattle.bytes_at.specs.Number.{bigFrom, littleFrom, uintOf, numbersAt}
 use Rattle.bytes_at.specs.Bytes.{sameBytes}

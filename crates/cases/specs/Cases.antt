@@ -1,4 +1,4 @@
--- Document 01, "A small file": its cases A to L, as one list. Each is asked of the bytes of both files with the definitions that answer the
+-- RULES.md 11.2: the small file's cases A to L, as one list. Each is asked of the bytes of both files with the definitions that answer the
 -- questions, and with an index room of 140 bytes, more than the index texts of both files take (134 and 126 bytes).
 use mathlib.Core.Path.{_≡_}
 use mathlib.Core.Bool.{Bool, true, _&&_}
@@ -101,6 +101,6 @@ cases =
     ∷ gives boolsDat boolsF0 126 (cellIn 1 0) 4104 8
     ∷ []
 
--- Every case comes out as document 01 says.
+-- Every case comes out as RULES.md 11.2 says.
 abbrev pub Right : Type 0
 Right = all (λ (b : Bool). b) cases ≡ true

@@ -1,4 +1,4 @@
--- The small file of document 01, sixteen bytes a line, and the file of its case L.
+-- The small file (RULES.md 11.1), sixteen bytes a line, and the file of its case L.
 use Prim.Native.Nat.{ℕ}
 use mathlib.Core.List.{List, _++_}
 use Rattle.bytes_at.specs.Number.{bigBytes as row}

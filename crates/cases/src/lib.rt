@@ -1,1 +1,1 @@
-// Cases A to L of document 01, "A small file", computed from the bytes of both files: specs/ and proofs/.
+// Cases A to L of the small file (RULES.md 11.2), computed from the bytes of both files: specs/ and proofs/.

@@ -1,4 +1,4 @@
-// The columns that an IncrementalStMan keeps, and the bytes of their cells (document 01, "IncrementalStMan").
+// The columns that an IncrementalStMan keeps, and the bytes of their cells (RULES.md 6.4).
 ghost use mathlib.Core.Path.{_≡_};
 ghost use Prim.Native.Nat.{_≤_};
 ghost use Rattle.incremental_rules.specs.Bucket.{cellBytes, cellsIn};

@@ -1,4 +1,4 @@
-// The header of an IncrementalStMan file (document 01, "IncrementalStMan"; Note 260, 3.4.3: Header).
+// The header of an IncrementalStMan file (RULES.md 6.1; Note 260, 3.4.3: Header).
 ghost use mathlib.Core.Path.{_≡_};
 ghost use Prim.Native.Nat.{_<_};
 ghost use Rattle.incremental_rules.specs.Header.{fieldsAt, headed, headerAt};

@@ -1,4 +1,4 @@
-// The index of an IncrementalStMan file (document 01, "IncrementalStMan"): its bucket numbers and its first rows.
+// The index of an IncrementalStMan file (RULES.md 6.3): its bucket numbers and its first rows.
 ghost use Prim.Native.Nat.{_+_, _*_, _≤_};
 ghost use lib.ListN.{length};
 ghost use mathlib.Core.Path.{_≡_};

@@ -1,5 +1,4 @@
-// The check of an IncrementalStMan file, which in the same pass finds the cell that is asked for (document 01,
-// "IncrementalStMan").
+// The check of an IncrementalStMan file, which in the same pass finds the cell that is asked for (RULES.md 6.5).
 pub mod cells;
 pub mod columns;
 pub mod header;

@@ -1,4 +1,4 @@
-// The index object of an IncrementalStMan file (document 01, "IncrementalStMan"; Note 260, 3.4.3: Bucket Index).
+// The index object of an IncrementalStMan file (RULES.md 6.2; Note 260, 3.4.3: Bucket Index).
 ghost use mathlib.Core.Path.{_≡_};
 ghost use lib.ListN.{length};
 ghost use Rattle.incremental_rules.specs.Index.{indexed, indexAt};

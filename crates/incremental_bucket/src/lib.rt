@@ -1,4 +1,4 @@
-// One bucket of an IncrementalStMan file (document 01, "IncrementalStMan"; Note 260, 3.4.3: Data Bucket): its check, which in
+// One bucket of an IncrementalStMan file (RULES.md 6.4; Note 260, 3.4.3: Data Bucket): its check, which in
 // the same pass finds the offset of the value that a row has in a column. No byte of the data part is read.
 pub mod offsets;
 pub mod values;

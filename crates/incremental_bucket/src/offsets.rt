@@ -1,5 +1,5 @@
-// The offsets of one column's values in a bucket of an IncrementalStMan file (document 01, "IncrementalStMan"; Note 260, 3.4.3: Data
-// Bucket). No byte of the data part is read.
+// The offsets of one column's values in a bucket of an IncrementalStMan file (RULES.md 6.4; Note 260, 3.4.3: Data Bucket).
+// No byte of the data part is read.
 ghost use mathlib.Core.Path.{_≡_};
 ghost use Prim.Native.Nat.{_+_, _≤_};
 ghost use lib.Dec.{leb};

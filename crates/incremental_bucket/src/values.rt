@@ -1,5 +1,5 @@
-// The values of one column in a bucket of an IncrementalStMan file (document 01, "IncrementalStMan"; Note 260, 3.4.3: Data
-// Bucket): their starts, and what reading their offsets shares with that.
+// The values of one column in a bucket of an IncrementalStMan file (RULES.md 6.4; Note 260, 3.4.3: Data Bucket):
+// their starts, and what reading their offsets shares with that.
 ghost use mathlib.Core.Path.{_≡_};
 ghost use mathlib.Core.Bool.{cond};
 ghost use Prim.Native.Nat.{_≤_, _<_};

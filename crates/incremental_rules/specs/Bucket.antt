@@ -1,4 +1,4 @@
--- Document 01, "IncrementalStMan", and Note 260, 3.4.3, Data Bucket: one bucket. Each step that judges a number also keeps the one
+-- RULES.md 6.4, and Note 260, 3.4.3, Data Bucket: one bucket. Each step that judges a number also keeps the one
 -- that is asked for, so that the check and the search for a cell are one.
 use Prim.Native.Nat.{ℕ, zero, suc, _+_, _-_, _*_, _≤_, _<_}
 use mathlib.Core.Path.{_≡_}

@@ -1,4 +1,4 @@
--- Document 01, "IncrementalStMan": when a file is accepted.
+-- RULES.md 6.5: when a file is accepted.
 use mathlib.Core.Path.{_≡_}
 use mathlib.Core.Logic.{_↔_}
 use Prim.Native.Nat.{ℕ, _+_, _-_, _*_, _≤_, _<_}

@@ -1,4 +1,4 @@
--- Document 01, "IncrementalStMan", and Note 260, 3.4.3, Header: its fields in file order.
+-- RULES.md 6.1, and Note 260, 3.4.3, Header: its fields in file order.
 use Prim.Native.Nat.{ℕ}
 use mathlib.Core.List.{List}
 use mathlib.Core.Bool.{true, Bool, cond}

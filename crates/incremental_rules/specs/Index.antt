@@ -1,4 +1,4 @@
--- Document 01, "IncrementalStMan", and Note 260, 3.4.3, Bucket Index: the ISMIndex object, and the rule for its numbers.
+-- RULES.md 6.2 and 6.3, and Note 260, 3.4.3, Bucket Index: the ISMIndex object, and the rule for its numbers.
 use mathlib.Core.Path.{_≡_}
 use Prim.Native.Nat.{ℕ, _+_, _<_}
 use mathlib.Core.Bool.{cond, Bool, _&&_, false, true}

@@ -1,4 +1,4 @@
--- Document 01, "IncrementalStMan", in its order.
+-- RULES.md 6, IncrementalStMan, in its order.
 pub mod Header
 pub mod Index
 pub mod Bucket

@@ -1,4 +1,4 @@
--- Document 01, "IncrementalStMan", and Note 260, 3.4.3, Index Part: the place of a cell, read from the numbers of the index and of the
+-- RULES.md 6.6, and Note 260, 3.4.3, Index Part: the place of a cell, read from the numbers of the index and of the
 -- bucket's index part; and what holds of it in an accepted file.
 use Prim.Native.Nat.{ℕ, _+_, _*_, zero, suc, _-_, _≤_, _<_}
 use mathlib.Core.List.{List}

@@ -1,5 +1,4 @@
-// The answer of a question that all stages are known of, and the one place that clears the room (document 01, "The questions" and
-// "Refusal numbers").
+// The answer of a question that all stages are known of, and the one place that clears the room (RULES.md 7.7 and 7.8).
 ghost use mathlib.Core.Path.{_≡_};
 ghost use mathlib.Core.Bool.{true, false, cond};
 ghost use Rattle.lookup_rules.specs.Questions.{noPlan};

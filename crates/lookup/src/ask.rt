@@ -1,5 +1,4 @@
-// Every question over a table and a data file (document 01, "The questions"), answered by one function, which alone clears the
-// room.
+// Every question over a table and a data file (RULES.md 7), answered by one function, which alone clears the room.
 ghost use mathlib.Core.Path.{_≡_};
 ghost use lib.ListN.{length};
 ghost use Rattle.lookup_rules.specs.Questions.{answerOf, roomAfter};

@@ -1,4 +1,4 @@
-// The public questions over a table and a data file (document 01, "The questions"), each one question to `lookup::ask::ask`.
+// The public questions over a table and a data file (RULES.md 7), each one question to `lookup::ask::ask`.
 pub mod answer;
 pub mod ask;
 
@@ -15,7 +15,7 @@ use lookup_rules::Planned;
 use lookup_rules::Question;
 use lookup_rules::Verdict;
 
-// File check. What each case of the answer says, document 01's number and values, is given by cases (`verdictRefusal`, ..).
+// File check. What each case of the answer says, the refusal's number and the values, is given by cases (`verdictRefusal`, ..).
 pub fn check(table: &[u8], file: &[u8], sequence: usize, room: &mut [u8]) -> Verdict
     ensures { λ r. ⌜ (r ≡ verdictOf (answerOf (now (table .entry)) (now (file .entry)) (Question.Check sequence) (length (now (room .entry))))) × (now (room .exit) ≡ roomAfter (now (table .entry)) (now (file .entry)) (Question.Check sequence) (length (now (room .entry)))) ⌝ }
     ensures says { λ r. ⌜ verdictRefusal r ≡ answerOf (now (table .entry)) (now (file .entry)) (Question.Check sequence) (length (now (room .entry))) .refused ⌝ }

@@ -1,4 +1,4 @@
-// A question, read once (document 01, "The questions").
+// A question, read once (RULES.md 7.1).
 ghost use mathlib.Core.Path.{_≡_};
 ghost use Rattle.lookup_rules.specs.Questions.{noPlan, cellOf, requestOf};
 use lookup_rules::Asked;

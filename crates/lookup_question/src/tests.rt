@@ -1,4 +1,4 @@
-// Whether what a question asks for passes (document 01, "Refusal numbers", Order): the column, the plan that is handed in, the row, and a
+// Whether what a question asks for passes (RULES.md 7.3 to 7.6): the column, the plan that is handed in, the row, and a
 // view.
 ghost use mathlib.Core.Path.{_≡_};
 ghost use mathlib.Core.Bool.{_||_};

@@ -1,4 +1,4 @@
-// An answer as the type of its question: a verdict, a plan, a place, or a part of the file (document 01, "The questions").
+// An answer as the type of its question: a verdict, a plan, a place, or a part of the file (RULES.md 7.7).
 ghost use mathlib.Core.Path.{_≡_};
 ghost use Prim.Native.Nat.{_+_, _/_};
 ghost use lib.ListN.{length, take, drop};

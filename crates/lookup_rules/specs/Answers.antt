@@ -1,4 +1,4 @@
--- Document 01, "The questions": each answer in the type of its question, and what each case of that type says: document 01's number, 0
+-- RULES.md 7.7: each answer in the type of its question, and what each case of that type says: the refusal's number, 0
 -- where nothing is refused, and the values; "A refusal carries its number and zeros".
 use Prim.Native.Nat.{ℕ, _/_}
 use mathlib.Core.List.{List}

@@ -1,4 +1,4 @@
--- Demand 3 (document 01, "What graders settle"), on answers of Place.
+-- Demand 3 (RULES.md 9.2), on answers of Place.
 use Prim.Native.Nat.{ℕ}
 use mathlib.Core.Path.{_≡_}
 use mathlib.Core.List.{List}

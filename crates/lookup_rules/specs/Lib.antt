@@ -1,4 +1,4 @@
--- Document 01, "The questions" and "Refusal numbers": the questions, their answers; then what holds of stale plans and of views, and demand 3.
+-- RULES.md 7 and 9: the questions, their answers; then what holds of stale plans and of views, and demand 3.
 pub mod Questions
 pub mod Answers
 pub mod Stale

@@ -1,4 +1,4 @@
--- Document 01, "The questions" and "Refusal numbers": what each question answers, and the room afterwards.
+-- RULES.md 7, the questions: what each question answers, and the room afterwards.
 use Prim.Native.Nat.{ℕ, _*_}
 use mathlib.Core.List.{List}
 use mathlib.Core.Bool.{Bool, true, false, cond, not, _&&_, _||_}

@@ -1,4 +1,4 @@
--- Document 01, refusal 12, "stale plan": when a prepared plan is refused, and what it gives where it is not.
+-- RULES.md 7.5 and 9.3, refusal 12, "stale plan": when a prepared plan is refused, and what it gives where it is not.
 use Prim.Native.Nat.{ℕ}
 use mathlib.Core.Path.{_≡_}
 use mathlib.Core.List.{List}

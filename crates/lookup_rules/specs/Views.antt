@@ -1,4 +1,4 @@
--- Document 01, "View": "the part of the caller's file that holds the cell".
+-- RULES.md 7.7 and 9.3, View: "the part of the caller's file that holds the cell".
 use Prim.Native.Nat.{ℕ, _+_, _*_, _/_, _≤_, _<_}
 use mathlib.Core.Path.{_≡_}
 use mathlib.Core.List.{List}

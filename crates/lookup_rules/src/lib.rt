@@ -1,10 +1,10 @@
-// The questions File check, Plan, Place and View (document 01, "The questions"), as definitions over the bytes of both files:
+// The questions File check, Plan, Place and View (RULES.md 7), as definitions over the bytes of both files:
 // `specs/`. The code that answers them is in `lookup`.
 use standard_rules::Set;
 use table_rules::Binding;
 use table_rules::Column;
 
-// A prepared plan: nine numbers in document 01's order. `datatype` is the data type's number, `per` the rows per bucket.
+// A prepared plan: nine numbers in the order of RULES.md 7.4. `datatype` is the data type's number, `per` the rows per bucket.
 pub struct Plan {
     pub position: usize,
     pub sequence: usize,

@@ -1,4 +1,4 @@
-// All stages of a question over a table and a data file, in their order (document 01, "The questions").
+// All stages of a question over a table and a data file, in their order (RULES.md 7.2).
 pub mod planning;
 
 ghost use mathlib.Core.Path.{_≡_};

@@ -1,4 +1,4 @@
-// The parts of a question over a table and a data file (document 01, "The questions"): the column and the manager that it is
+// The parts of a question over a table and a data file (RULES.md 7.3 and 7.4): the column and the manager that it is
 // about, and the fresh plan.
 ghost use mathlib.Core.Path.{_≡_};
 ghost use Prim.Native.Nat.{_<_, _≤_};

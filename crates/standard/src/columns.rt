@@ -1,4 +1,4 @@
-// The columns of a StandardStMan file in its map (document 01, "StandardStMan", Map): the sets that they name, how many each
+// The columns of a StandardStMan file in its map (RULES.md 5.6): the sets that they name, how many each
 // set has, and their extents in the bucket. Columns are given by position: whether each is kept in the file, its set, its offset
 // and the bits of a cell; sets by their rows per bucket and their column counts. Lists of numbers can be lent, a table's
 // description can not.

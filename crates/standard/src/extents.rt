@@ -1,4 +1,4 @@
-// The extents of columns in a bucket: where each ends, and whether one meets another of its set (document 01, "StandardStMan").
+// The extents of columns in a bucket: where each ends, and whether one meets another of its set (RULES.md 5.6).
 // Columns are given by position: whether each is kept in the file, its set, and where its extent starts and ends. What is given
 // of a column that is not kept does not count.
 ghost use Prim.Native.Nat.{_≤_, _<_, _+_, _-_};

@@ -1,4 +1,4 @@
-// The check of a StandardStMan file (document 01, "StandardStMan"). The columns of the table are lent by position, as
+// The check of a StandardStMan file (RULES.md 5.7). The columns of the table are lent by position, as
 // `columns` takes them.
 pub mod columns;
 pub mod extents;

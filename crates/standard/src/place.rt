@@ -1,4 +1,4 @@
-// Where a cell of a StandardStMan file begins (document 01, "StandardStMan", the last paragraph).
+// Where a cell of a StandardStMan file begins (RULES.md 5.8).
 ghost use lib.ListN.{length};
 ghost use Prim.Native.Nat.{_≤_, _<_};
 ghost use mathlib.Core.Path.{_≡_};

@@ -1,4 +1,4 @@
-// The sets of a StandardStMan file in its map (document 01, "StandardStMan", Map): their last rows, and the buckets that are
+// The sets of a StandardStMan file in its map (RULES.md 5.6): their last rows, and the buckets that are
 // in range and all different. Sets are given by position, in lists of numbers, which can be lent.
 ghost use Prim.Native.Nat.{ℕ, _+_, _*_, _≤_, _<_};
 ghost use lib.ListN.{length, getD};

@@ -1,4 +1,4 @@
-// The index text of a StandardStMan file, gathered from its index buckets into the lent room (document 01, "StandardStMan", Index).
+// The index text of a StandardStMan file, gathered from its index buckets into the lent room (RULES.md 5.3).
 ghost use mathlib.Core.Path.{_≡_};
 ghost use Prim.Native.Nat.{_≤_};
 ghost use lib.ListN.{length, take, drop};

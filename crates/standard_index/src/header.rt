@@ -1,4 +1,4 @@
-// The header of a StandardStMan file (document 01, "StandardStMan"; Note 260, 3.4.2: Header).
+// The header of a StandardStMan file (RULES.md 5.1; Note 260, 3.4.2: Header).
 ghost use mathlib.Core.Path.{_≡_};
 ghost use Prim.Native.Nat.{_<_};
 ghost use Rattle.standard_rules.specs.Header.{bucketFieldsAt, offsetFits, indexFieldsAt, headed, headerAt};

@@ -1,4 +1,4 @@
-// The last rows of a set in the index text: the map's rule for them, and the entry of a row (document 01, "StandardStMan").
+// The last rows of a set in the index text: the map's rule for them, and the entry of a row (RULES.md 5.6 and 5.8).
 ghost use Prim.Native.Nat.{_+_, _*_, _≤_, _<_, _-_};
 ghost use lib.ListN.{length};
 ghost use mathlib.Core.Path.{_≡_};

@@ -1,4 +1,4 @@
-// The index text of a StandardStMan file (document 01, "StandardStMan"; Note 260, 3.4.2: Index Buckets).
+// The index text of a StandardStMan file (RULES.md 5.4; Note 260, 3.4.2: Index Buckets).
 ghost use mathlib.Core.Path.{_≡_};
 ghost use Prim.Native.Nat.{_≤_, ℕ, _<_};
 ghost use lib.ListN.{length, getD};

@@ -1,4 +1,4 @@
--- Document 01, "StandardStMan": when a file is accepted.
+-- RULES.md 5.7: when a file is accepted.
 use Prim.Native.Nat.{ℕ, _+_, _*_, _-_, _≤_}
 use mathlib.Core.Path.{_≡_}
 use mathlib.Core.Logic.{_↔_}

@@ -1,4 +1,4 @@
--- Document 01, "StandardStMan", and Note 260, 3.4.2, Header: its fields in file order.
+-- RULES.md 5.1, and Note 260, 3.4.2, Header: its fields in file order.
 use Prim.Native.Nat.{ℕ, _+_, _*_}
 use mathlib.Core.Bool.{cond, Bool, true}
 use lib.Dec.{leb, eqb}

@@ -1,4 +1,4 @@
--- Document 01, "StandardStMan", and Note 260, 3.4.2, Index Buckets: the chain of index buckets or the offset in one, the index text,
+-- RULES.md 5.3 to 5.5, and Note 260, 3.4.2, Index Buckets: the chain of index buckets or the offset in one, the index text,
 -- and the free list.
 use Prim.Native.Nat.{ℕ, _+_, zero, suc, _-_, _*_}
 use mathlib.Core.Bool.{true, Bool, _&&_, cond}

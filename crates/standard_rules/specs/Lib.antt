@@ -1,4 +1,4 @@
--- Document 01, "StandardStMan", in its order; demand 3 of a map; and, last, how the code finds an entry.
+-- RULES.md 5, StandardStMan, in its order; demand 3 of a map; and, last, how the code finds an entry.
 pub mod Header
 pub mod Index
 pub mod Map

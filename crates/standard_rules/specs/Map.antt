@@ -1,4 +1,4 @@
--- Document 01, "StandardStMan", Map: what a file says of rows, buckets and columns, and whether that is right.
+-- RULES.md 5.6, the map: what a file says of rows, buckets and columns, and whether that is right.
 use Prim.Native.Nat.{ℕ, _<_, zero, suc, _+_, _/_, _*_, _≤_}
 use mathlib.Core.List.{List, [], _∷_, map, _++_}
 use mathlib.Core.Bool.{Bool, false, true, _&&_, cond, _||_}

@@ -1,4 +1,4 @@
--- Document 01, "StandardStMan", the last paragraph: where a cell is.
+-- RULES.md 5.8: where a cell is.
 use Prim.Native.Nat.{ℕ, suc, _-_, _+_, _*_}
 use mathlib.Core.Bool.{cond}
 use mathlib.Core.List.{List, [], _∷_}

@@ -1,4 +1,4 @@
-// table.dat (document 01, "table.dat"; Note 260, 3.1): Description and Column by name.
+// table.dat (RULES.md 4; Note 260, 3.1): Description and Column by name.
 pub mod names;
 
 ghost use mathlib.Core.Path.{_≡_};

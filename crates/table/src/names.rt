@@ -1,4 +1,4 @@
-// Column by name (document 01, "The questions").
+// Column by name (RULES.md 4.11).
 ghost use mathlib.Core.Path.{_≡_};
 ghost use Rattle.table_rules.specs.Table.{columnNamed};
 use table_rules::Position;

@@ -1,4 +1,4 @@
--- How the code looks a column name up: among parts of table.dat that are given by two lists of numbers. No rule of document 01.
+-- How the code looks a column name up: among parts of table.dat that are given by two lists of numbers. No rule of RULES.md.
 use Prim.Native.Nat.{ℕ}
 use mathlib.Core.List.{List}
 use lib.ListN.{take, drop, getD}

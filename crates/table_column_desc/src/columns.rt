@@ -1,4 +1,4 @@
-// The column descriptions of a table (document 01, "table.dat"; Note 260, 3.1.1: ColumnDesc).
+// The column descriptions of a table (RULES.md 4.4; Note 260, 3.1.1: ColumnDesc).
 ghost use mathlib.Core.Path.{_≡_};
 ghost use Prim.Native.Nat.{_≤_};
 ghost use Rattle.table_rules.specs.ColumnDesc.{columnTypeAt, columnHeadAt, columnRestAt, noColumn, columnsAt};

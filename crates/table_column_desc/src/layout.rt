@@ -1,5 +1,5 @@
 // The fields of a column's description after its name: notes, data type number, options, dimensionality, shape, string maximum and
-// default value (document 01, "table.dat"; Note 260, 3.1.1: ColumnDesc).
+// default value (RULES.md 4.4; Note 260, 3.1.1: ColumnDesc).
 ghost use mathlib.Core.Path.{_≡_};
 ghost use Prim.Native.Nat.{_≤_};
 ghost use Rattle.table_rules.specs.ColumnDesc.{notesAt, optionsFit, optionsAt, dimensionsFit, dimensionsAt, elementsAt, layoutAt, defaultAt, tailAt};

@@ -1,4 +1,4 @@
-// The types of columns: what a column type string says, and the bits of a cell (document 01, "table.dat").
+// The types of columns: what a column type string says, and the bits of a cell (RULES.md 4.3 and 4.5).
 ghost use mathlib.Core.Path.{_≡_};
 ghost use lib.ListN.{take};
 ghost use Prim.Native.Nat.{_≤_, _<_};

@@ -1,4 +1,4 @@
-// The binding of a table's columns to its data managers (document 01, "table.dat"; Note 260, 3.1.2: ColumnInfo, DMInfo).
+// The binding of a table's columns to its data managers (RULES.md 4.9; Note 260, 3.1.2: ColumnInfo, DMInfo).
 ghost use mathlib.Core.Path.{_≡_};
 ghost use mathlib.Core.Bool.{false};
 ghost use lib.ListN.{getD};

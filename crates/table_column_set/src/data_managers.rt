@@ -1,4 +1,4 @@
-// The beginning of ColumnSet and the data managers of a table (document 01, "table.dat"; Note 260, 3.1.2: ColumnSet).
+// The beginning of ColumnSet and the data managers of a table (RULES.md 4.6 and 4.7; Note 260, 3.1.2: ColumnSet).
 ghost use mathlib.Core.Path.{_≡_};
 ghost use Prim.Native.Nat.{_≤_};
 ghost use Rattle.table_rules.specs.ColumnSet.{kindOf, isOurs, columnSetHeadAt, firstNumber, isNew, noManager, managersAt};

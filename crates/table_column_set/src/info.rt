@@ -1,4 +1,4 @@
-// ColumnInfo: the data manager of each of a table's columns (document 01, "table.dat"; Note 260, 3.1.2).
+// ColumnInfo: the data manager of each of a table's columns (RULES.md 4.8; Note 260, 3.1.2).
 ghost use mathlib.Core.Path.{_≡_};
 ghost use Prim.Native.Nat.{_<_, ℕ, _≤_, _+_};
 ghost use lib.ListN.{getD, length, set};

@@ -1,4 +1,4 @@
--- Document 01, "table.dat", and Note 260, 3.1.1: ColumnDesc, its fields in file order.
+-- RULES.md 4.3 to 4.5, and Note 260, 3.1.1: ColumnDesc, its fields in file order.
 use mathlib.Core.Bool.{Bool, true, false, cond}
 use Prim.Native.Nat.{ℕ, _%_, _/_, _*_}
 use mathlib.Core.List.{List}

@@ -1,4 +1,4 @@
--- Document 01, "table.dat", and Note 260, 3.1.2: ColumnSet, its fields in file order: row count, data managers, ColumnInfo, DMInfo.
+-- RULES.md 4.6 to 4.9, and Note 260, 3.1.2: ColumnSet, its fields in file order: row count, data managers, ColumnInfo, DMInfo.
 use Prim.Native.Nat.{ℕ, _+_, _*_}
 use mathlib.Core.List.{List}
 use lib.Dec.{eqb, leb, ltb}

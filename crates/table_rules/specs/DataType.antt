@@ -1,4 +1,4 @@
--- Document 01, "table.dat": the data types.
+-- RULES.md 4.3: the data types.
 use Prim.Native.Nat.{ℕ, _*_}
 use mathlib.Core.List.{List, [], _∷_, _++_}
 use lib.ListN.{getD, take}
@@ -19,7 +19,7 @@ pub record TypeRow : Type 0 where
 abbrev row : List ℕ → ℕ → ℕ → TypeRow
 row name number bits = record { name = name; number = number; bits = bits }
 
--- "Each data type carries its own size and number": the table of document 01, a byte being 8 bits. A String has no size of its own.
+-- "Each data type carries its own size and number": the table of RULES.md 4.3, a byte being 8 bits. A String has no size of its own.
 abbrev pub types : List TypeRow
 types =
     -- | T | number | bytes |

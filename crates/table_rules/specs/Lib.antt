@@ -1,4 +1,4 @@
--- Document 01, "table.dat", in its order.
+-- RULES.md 4, table.dat, in its order.
 pub mod DataType
 pub mod ColumnDesc
 pub mod ColumnSet

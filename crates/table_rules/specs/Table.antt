@@ -1,4 +1,4 @@
--- Document 01, "table.dat", and Note 260, 3.1: Table, TableDesc; the questions Description and Column by name.
+-- RULES.md 4.1, 4.2, 4.10 and 4.11, and Note 260, 3.1: Table, TableDesc; the questions Description and Column by name.
 use Prim.Native.Nat.{ℕ, _<_}
 use mathlib.Core.Path.{_≡_}
 use mathlib.Core.List.{List}
@@ -108,7 +108,7 @@ columnNamed s name = do
   k ← firstNamed s (d .columns) (d .«column_count») name
   positionOr (d .refused ▷ orNo (ltb k (d .«column_count»)) 8) k
 
--- what each case of that answer says: document 01's number, 0 where nothing is refused, and the position, 0 where it is refused
+-- what each case of that answer says: the refusal's number, 0 where nothing is refused, and the position, 0 where it is refused
 abbrev pub positionRefusal : Position → ℕ
 positionRefusal (At k) = 0
 positionRefusal (Refused n) = n

@@ -1,4 +1,4 @@
-// The data types of columns (document 01, "table.dat").
+// The data types of columns (RULES.md 4.3).
 
 ghost use mathlib.Core.Path.{_≡_};
 ghost use Prim.Native.Nat.{_≤_, _<_, ℕ};
@@ -100,7 +100,7 @@ impl DataType {
 
     const NO_NAME: [u8; 8] = *b"        ";
 
-    // The name, filled with spaces to eight characters; spaces alone for what is none of document 01's types.
+    // The name, filled with spaces to eight characters; spaces alone for what is none of the types.
     pub fn name(self) -> [u8; 8]
         ensures { λ r. ⌜ r ≡ filled (typeName self) ⌝ }
     {
@@ -165,7 +165,7 @@ impl DataType {
         }
     }
 
-    // The bits of an element, by the type's number; 0 for a String and for what is none of document 01's types.
+    // The bits of an element, by the type's number; 0 for a String and for what is none of the types.
     pub fn element_bits(self) -> usize
         ensures { λ r. ⌜ (r ≡ elementBits self) × (r < 256) ⌝ }
     {

@@ -1,4 +1,4 @@
-// The rules of table.dat (document 01, "table.dat"; Note 260, 3.1), as definitions over its bytes: `specs/`, in the chapter's order. Here
+// The rules of table.dat (RULES.md 4; Note 260, 3.1), as definitions over its bytes: `specs/`, in the chapter's order. Here
 // stand the types that they speak of, in the same order. The type of data types stands in `data_type` with its functions.
 pub mod data_type;
 

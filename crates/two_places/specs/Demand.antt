@@ -1,4 +1,4 @@
--- What holds of the answers of Place: demand 3 (document 01, "What graders settle") in StandardStMan, and what holds in
+-- What holds of the answers of Place: demand 3 (RULES.md 9.2) in StandardStMan, and what holds in
 -- IncrementalStMan.
 use Prim.Native.Nat.{ℕ}
 use mathlib.Core.Path.{_≡_}

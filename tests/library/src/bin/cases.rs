@@ -1,4 +1,4 @@
-//! Document 01's cases A to L, asked of the proved library: a line for each question with its answer. The bytes are those of
+//! Cases A to L (RULES.md 11.2), asked of the proved library: a line for each question with its answer. The bytes are those of
 //! the proved list of cases, read out of crates/cases/specs/SmallFile.antt, and so are the changes.
 
 use std::fmt::Write as _;

@@ -1,4 +1,4 @@
-//! Reading AipsIO: document 01, AipsIO, and Note 260, section 2.
+//! Reading AipsIO: RULES.md 3, and Note 260, section 2.
 //!
 //! Each function reads one field and refuses with that field's lowest number.
 

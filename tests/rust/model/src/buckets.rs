@@ -1,6 +1,6 @@
 //! What the files of StandardStMan and IncrementalStMan have in common: a
 //! header, then buckets of one size, some of them in a list of free ones
-//! (document 01; Note 260, sections 3.4.2 and 3.4.3).
+//! (RULES.md 5 and 6; Note 260, sections 3.4.2 and 3.4.3).
 
 use crate::aipsio::Reader;
 use crate::refusal::{DISAGREES, ENDS_EARLY, WRONG_CHAIN, WRONG_MAP};
@@ -9,7 +9,7 @@ use std::ops::RangeInclusive;
 /// The header stands in the file's first bytes; the buckets follow them.
 const HEADER_ROOM: usize = 512;
 
-// Document 01, Ranges.
+// RULES.md 8.2, Ranges.
 const BUCKET_SIZE: RangeInclusive<u32> = 16..=1_048_576;
 const MAX_BUCKETS: u32 = 4096;
 

@@ -1,4 +1,4 @@
-//! The data types of a column: document 01, table.dat, the table of types.
+//! The data types of a column: RULES.md 4.3.
 
 #[derive(Clone, Copy, Debug, PartialEq, Eq)]
 pub enum DataType {
@@ -17,7 +17,7 @@ pub enum DataType {
 }
 
 impl DataType {
-    /// The type that document 01 spells so.
+    /// The type that RULES.md 4.3 spells so.
     pub fn from_name(name: &[u8]) -> Option<Self> {
         Some(match name {
             b"Bool" => Self::Bool,

@@ -1,4 +1,4 @@
-//! The files of IncrementalStMan: document 01, IncrementalStMan, and Note 260,
+//! The files of IncrementalStMan: RULES.md 6, and Note 260,
 //! section 3.4.3.
 
 use crate::aipsio::{Numbers, Reader};

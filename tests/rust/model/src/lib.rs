@@ -1,7 +1,8 @@
-//! An independent model of the questions of document 01 ("the planned build
-//! and its exact rules") about Casacore tables, written from the papers alone.
+//! An independent model of the questions of docs/RULES.md about Casacore tables,
+//! written from the scope document (whose rules RULES.md states) and Note 260
+//! alone.
 //!
-//! A refused question gives the refusal number of document 01; the numbers
+//! A refused question gives the refusal number of RULES.md 8.1; the numbers
 //! have names in [`refusal`]. "Note 260" is Casacore Note 260, Table System
 //! File Formats.
 

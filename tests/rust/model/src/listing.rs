@@ -1,4 +1,4 @@
-//! The listing program: document 01, A small file.
+//! The listing program: RULES.md 10.
 
 use crate::table::describe;
 use std::io::Write;

@@ -1,5 +1,4 @@
-//! The questions File check, Plan, Place and View: document 01, The questions
-//! and Refusal numbers (Order).
+//! The questions File check, Plan, Place and View: RULES.md 7.
 //!
 //! Each is lent an index room. After a refusal it is all zero, and for
 //! IncrementalStMan always; after acceptance in StandardStMan it holds the

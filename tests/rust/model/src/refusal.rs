@@ -1,4 +1,4 @@
-//! The refusal numbers of document 01.
+//! The refusal numbers of RULES.md 8.1.
 
 /// The bytes, or the enclosing object, end before the field or object does;
 /// or the file is shorter than its buckets.

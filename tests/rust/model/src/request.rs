@@ -78,7 +78,7 @@ fn lent(field: &str) -> Option<Vec<u8>> {
     Some(vec![ROOM_FILL; length as usize])
 }
 
-/// A plan: its nine fields in document 01's order.
+/// A plan: its nine fields in the order of RULES.md 7.4.
 fn plan_of(field: &str) -> Option<Plan> {
     let fields: Vec<u64> = field.split(',').map(number).collect::<Option<_>>()?;
     let [position, manager, data_type, elements, cell_bits, set, offset, rows_per_bucket, size] =

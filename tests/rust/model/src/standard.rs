@@ -1,4 +1,4 @@
-//! The files of StandardStMan: document 01, StandardStMan, and Note 260,
+//! The files of StandardStMan: RULES.md 5, and Note 260,
 //! section 3.4.2.
 
 use crate::aipsio::{Numbers, Reader};
@@ -6,7 +6,7 @@ use crate::buckets::{BucketSet, Buckets, HeaderStart, header};
 use crate::refusal::{OUT_OF_RANGE, SHORT_ROOM, WRONG_CHAIN, WRONG_MAP};
 use crate::table::{Column, Description};
 
-// Document 01, Ranges.
+// RULES.md 8.2, Ranges.
 const MAX_INDEX_LENGTH: u32 = 65_536;
 const MAX_INDICES: u32 = 16;
 const MAX_ROWS_PER_BUCKET: u32 = 8_388_608;

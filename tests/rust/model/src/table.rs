@@ -1,11 +1,11 @@
-//! The questions Description and Column by name: document 01, table.dat, and
+//! The questions Description and Column by name: RULES.md 4, and
 //! Note 260, section 3.1.
 
 use crate::aipsio::Reader;
 use crate::data_type::DataType;
 use crate::refusal::{DISAGREES, DOES_NOT_FIT, NO_SUCH, OUT_OF_RANGE, WRONG_LENGTH, WRONG_VERSION};
 
-// Document 01, Ranges.
+// RULES.md 8.2, Ranges.
 const MAX_FILE: usize = 65_536;
 const MAX_ROWS: u32 = 2_147_483_647;
 const MAX_COLUMNS: u32 = 64;

@@ -1,4 +1,4 @@
-//! Document 01's small file, written here byte by byte, and its cases A to L.
+//! The small file of RULES.md 11, written here byte by byte, and its cases A to L.
 
 mod common;
 

@@ -1,4 +1,4 @@
-//! The `table.dat` of document 01's small file, written here byte by byte.
+//! The `table.dat` of the small file (RULES.md 11.1), written here byte by byte.
 
 mod common;
 

@@ -1,4 +1,4 @@
-//! The cells of a column: document 01, table.dat.
+//! The cells of a column: RULES.md 4.5.
 
 use crate::table::{BOOL, Column, STRING, TYPES};
 

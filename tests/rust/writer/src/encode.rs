@@ -1,4 +1,4 @@
-//! The bytes of a table: AipsIO (Note 260, section 2; document 01, AipsIO).
+//! The bytes of a table: AipsIO (Note 260, section 2; RULES.md 3).
 
 use crate::table::{Column, DefaultValue, Header, Record, Shape, Table, Text};
 

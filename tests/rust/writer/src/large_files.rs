@@ -1,4 +1,4 @@
-//! Files at the limits of document 01's Ranges: 4,096 buckets, an index text of
+//! Files at the limits of the Ranges (RULES.md 8.2): 4,096 buckets, an index text of
 //! 65,536 bytes, 64 columns, 16 sets, buckets of 1,048,576 bytes.
 
 use crate::buckets::{Buckets, Subject};

@@ -1,7 +1,8 @@
 //! A writer of good and faulty `table.dat` files, and sets of request lines
 //! about them.
 //!
-//! It knows the format from document 01 and Casacore Note 260 on its own and
+//! It knows the format from the scope document (whose rules docs/RULES.md
+//! states) and Casacore Note 260 on its own and
 //! shares nothing with the model, so that one does not hide the other's
 //! mistakes. Everything pseudo random comes from fixed seeds.
 

@@ -1,7 +1,7 @@
 //! Faults of an AipsIO object's mark and header, for objects of any file.
 //!
 //! Each function changes a good object and says what a reader must answer by
-//! document 01, the object's fields being judged. `length` is the object's
+//! RULES.md 3.4 and 3.5, the object's fields being judged. `length` is the object's
 //! length and `room` the bytes from its start to its container's end.
 
 use crate::rng::Rng;

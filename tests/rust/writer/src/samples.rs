@@ -30,7 +30,7 @@ pub fn files(name: &str) -> Vec<(u32, Vec<u8>)> {
     }
 }
 
-/// Document 01's small file.
+/// The small file of RULES.md 11.
 pub fn small() -> Table {
     let columns = vec![
         Column::scalar(INT, "SCAN").at(0, 0).comment("scan number"),
@@ -87,7 +87,7 @@ pub fn arrays() -> Table {
     table
 }
 
-/// Document 01's small file: five buckets of 64 bytes, the index in 1, 3 and 4.
+/// The small file of RULES.md 11: five buckets of 64 bytes, the index in 1, 3 and 4.
 pub fn small_file() -> Subject<StandardFile> {
     let buckets = Buckets::new("StandardStMan", 3, 1, 64, 5);
     let indices = vec![Index::new(4, 3, &[(3, 2), (6, 0)])];

@@ -25,7 +25,7 @@ incremental SEED COUNT
                    the same about IncrementalStMan files
 files-large [SEED COUNT]
                    files of 4,096 buckets, or with the largest buckets
-small-file         document 01's small file, its cases and variants of them";
+small-file         the small file of RULES.md 11, its cases and variants of them";
 
 #[derive(Clone, Copy, Debug, PartialEq, Eq)]
 pub enum Set {

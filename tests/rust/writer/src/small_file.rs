@@ -1,4 +1,4 @@
-//! Questions about document 01's small file: its cases A to L, and variants of
+//! Questions about the small file (RULES.md 11): its cases A to L, and variants of
 //! each of them.
 
 use crate::buckets::{BucketFile, Subject};

@@ -89,7 +89,7 @@ impl Shape {
     }
 }
 
-/// A data type of document 01: T, its number, and the bytes of a default value.
+/// A data type of RULES.md 4.3: T, its number, and the bytes of a default value.
 #[derive(Clone, Copy, Debug, PartialEq, Eq)]
 pub struct Type {
     pub name: &'static str,

@@ -1,4 +1,4 @@
-//! Rules of document 01 for IncrementalStMan, each by hand on a small file.
+//! Rules of RULES.md 6 for IncrementalStMan, each by hand on a small file.
 
 use model::{Kind, check, place, plan, view};
 use writer::buckets::{BucketFile, Buckets, Subject};

@@ -1,4 +1,4 @@
-//! Rules of document 01, each by hand on a small table.
+//! Rules of RULES.md 4, each by hand on a small table.
 
 use model::describe;
 use writer::samples;
@@ -13,7 +13,7 @@ fn after(mut table: Table, change: impl FnOnce(&mut Table)) -> u8 {
     describe(&table.encode()).err().unwrap_or(0)
 }
 
-/// Document 01's small table after a change.
+/// The small table (RULES.md 11.1) after a change.
 fn small(change: impl FnOnce(&mut Table)) -> u8 {
     after(samples::small(), change)
 }

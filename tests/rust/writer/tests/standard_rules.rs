@@ -1,4 +1,4 @@
-//! Rules of document 01 for StandardStMan, each by hand on its small file.
+//! Rules of RULES.md 5 for StandardStMan, each by hand on its small file.
 
 use model::{Kind, Plan, check, place, place_by_plan, plan, view, view_by_plan};
 use writer::buckets::{BucketFile, Subject};

@@ -119,7 +119,7 @@ pub fn table(rows: u32, columns: &[Column]) -> Vec<u8> {
     [vec![0xBE; 4], object("Table", 2, &fields)].concat()
 }
 
-/// The table of document 01's small file.
+/// The table of the small file (RULES.md 11.1).
 pub fn small_table() -> Vec<u8> {
     table(7, &[SCAN, FLAG, TIME])
 }
