@@ -1,6 +1,7 @@
 /*
- * Asks every question of include/helvidrane.h on the samples `small` and `arrays`: accepted, refused with each number, and
- * with arrays that are too short. The answers are those of RULES.md and of the independent model. It is C and C++.
+ * Asks every question of include/helvidrane.h on the samples `small` and `arrays`: accepted, refused with each number, with
+ * `out` shorter and longer than the answer, with plans that are too short, and with null pointers to runs of 0 elements. The
+ * answers are those of RULES.md and of the independent model. It is C and C++.
  *
  * questions SAMPLES: exits with 1 at the first difference.
  */
@@ -13,14 +14,13 @@
 #define HOLD(condition, line) hold(condition, #condition, __FILE__, line)
 #define ACCEPTED(question, values) accepted(question, values, sizeof values / sizeof *values, __LINE__)
 #define REFUSED(question, number) refused(question, number, __LINE__)
-#define SHORT_ARRAYS(question) short_arrays(question, __LINE__)
 
 enum question { DESCRIPTION, COLUMN, MANAGER, BY_NAME, CHECK, PLAN, PLACE, PLACE_PLANNED, VIEW, VIEW_PLANNED };
 
-static const size_t answer_lens[] = {HV_DESCRIPTION_LEN, HV_COLUMN_LEN, HV_MANAGER_LEN, HV_POSITION_LEN, 0,
+static const size_t answer_lens[] = {HV_DESCRIPTION_LEN, HV_COLUMN_LEN, HV_MANAGER_LEN, HV_POSITION_LEN, HV_CHECK_LEN,
                                      HV_PLAN_LEN,        HV_PLACE_LEN,  HV_PLACE_LEN,   HV_VIEW_LEN,     HV_VIEW_LEN};
 
-enum { BYTES_MOST = 1 << 20, OUT_MOST = 16, ROOM_MOST = HV_ROOM_MOST + 16 };
+enum { BYTES_MOST = 1 << 20, OUT_MOST = 16, ROOM_MOST = HV_ROOM_MOST + 16, PLAN_MOST = HV_PLAN_LEN + 2 };
 
 struct bytes {
     uint8_t at[BYTES_MOST];
@@ -32,7 +32,7 @@ static struct bytes table, file;
 static const char *name;
 static uint64_t number; /* a position, an index or a sequence number */
 static uint64_t row;
-static uint64_t plan[HV_PLAN_LEN];
+static uint64_t plan[PLAN_MOST];
 static size_t plan_len = HV_PLAN_LEN;
 static size_t room_len;
 static struct bytes text; /* what the room holds after acceptance, before the zeros */
@@ -66,8 +66,24 @@ static void read_file(struct bytes *bytes, const char *samples, const char *samp
     fclose(stream);
 }
 
-static uint64_t ask(enum question question, size_t out_len)
+/* Whether a run of 0 elements is lent with a null pointer. */
+static int is_null;
+
+static uint8_t *lent(uint8_t *bytes, size_t len)
 {
+    return is_null && len == 0 ? NULL : bytes;
+}
+
+static uint64_t *lent_numbers(uint64_t *numbers, size_t len)
+{
+    return is_null && len == 0 ? NULL : numbers;
+}
+
+static enum hv_number ask(enum question question, size_t out_len)
+{
+    const uint8_t *t = lent(table.at, table.len), *f = lent(file.at, file.len);
+    uint8_t *r = lent(room, room_len);
+    uint64_t *o = lent_numbers(out, out_len), *p = lent_numbers(plan, plan_len);
     size_t i;
 
     for (i = 0; i < OUT_MOST; i++)
@@ -75,25 +91,25 @@ static uint64_t ask(enum question question, size_t out_len)
     memset(room, room_filling, sizeof room);
     switch (question) {
     case DESCRIPTION:
-        return hv_description(table.at, table.len, out, out_len);
+        return hv_description(t, table.len, o, out_len);
     case COLUMN:
-        return hv_column(table.at, table.len, number, out, out_len);
+        return hv_column(t, table.len, number, o, out_len);
     case MANAGER:
-        return hv_manager(table.at, table.len, number, out, out_len);
+        return hv_manager(t, table.len, number, o, out_len);
     case BY_NAME:
-        return hv_column_by_name(table.at, table.len, (const uint8_t *)name, strlen(name), out, out_len);
+        return hv_column_by_name(t, table.len, lent((uint8_t *)name, strlen(name)), strlen(name), o, out_len);
     case CHECK:
-        return hv_check(table.at, table.len, file.at, file.len, number, room, room_len);
+        return hv_check(t, table.len, f, file.len, number, r, room_len, o, out_len);
     case PLAN:
-        return hv_plan(table.at, table.len, file.at, file.len, number, room, room_len, out, out_len);
+        return hv_plan(t, table.len, f, file.len, number, r, room_len, o, out_len);
     case PLACE:
-        return hv_place(table.at, table.len, file.at, file.len, row, number, room, room_len, out, out_len);
+        return hv_place(t, table.len, f, file.len, row, number, r, room_len, o, out_len);
     case PLACE_PLANNED:
-        return hv_place_planned(table.at, table.len, file.at, file.len, row, plan, plan_len, room, room_len, out, out_len);
+        return hv_place_planned(t, table.len, f, file.len, row, p, plan_len, r, room_len, o, out_len);
     case VIEW:
-        return hv_view(table.at, table.len, file.at, file.len, row, number, room, room_len, out, out_len);
+        return hv_view(t, table.len, f, file.len, row, number, r, room_len, o, out_len);
     case VIEW_PLANNED:
-        return hv_view_planned(table.at, table.len, file.at, file.len, row, plan, plan_len, room, room_len, out, out_len);
+        return hv_view_planned(t, table.len, f, file.len, row, p, plan_len, r, room_len, o, out_len);
     }
     abort();
 }
@@ -120,16 +136,22 @@ static void untouched_from(enum question question, size_t out_from, int line)
     HOLD(room_is(question < CHECK ? 0 : room_len, ROOM_MOST, room_filling), line);
 }
 
+static size_t lesser(size_t a, size_t b)
+{
+    return a < b ? a : b;
+}
+
 static void accepted(enum question question, const uint64_t *values, size_t count, int line)
 {
     size_t n = answer_lens[question];
     size_t out_len;
 
-    HOLD(question == CHECK || n == count, line);
-    for (out_len = n; out_len <= n + 3; out_len++) {
+    HOLD(n == count, line);
+    for (out_len = 0; out_len <= n + 3; out_len++) {
+        size_t written = lesser(n, out_len);
         HOLD(ask(question, out_len) == HV_ACCEPTED, line);
-        HOLD(memcmp(out, values, n * sizeof *out) == 0, line);
-        untouched_from(question, n, line);
+        HOLD(memcmp(out, values, written * sizeof *out) == 0, line);
+        untouched_from(question, written, line);
         if (question >= CHECK) {
             HOLD(memcmp(room, text.at, text.len) == 0, line);
             HOLD(room_is(text.len, room_len, 0), line);
@@ -137,45 +159,48 @@ static void accepted(enum question question, const uint64_t *values, size_t coun
     }
 }
 
-static void refused(enum question question, uint64_t refusal, int line)
+static void refused(enum question question, enum hv_number refusal, int line)
 {
     size_t n = answer_lens[question];
     size_t out_len;
 
-    for (out_len = n; out_len <= n + 3; out_len++) {
+    for (out_len = 0; out_len <= n + 3; out_len++) {
+        size_t written = lesser(n, out_len);
         HOLD(ask(question, out_len) == refusal, line);
-        HOLD(out_is(0, n, 0), line);
-        untouched_from(question, n, line);
+        HOLD(out_is(0, written, 0), line);
+        untouched_from(question, written, line);
         if (question >= CHECK)
             HOLD(room_is(0, room_len, 0), line);
     }
 }
 
 /* Whether or not the question would be refused: nothing is written, the room included. */
-static void short_arrays(enum question question, int line)
+static void short_plans(enum question question, int line)
 {
     size_t out_len;
 
-    for (out_len = 0; out_len < answer_lens[question]; out_len++) {
-        HOLD(ask(question, out_len) == HV_SHORT, line);
-        HOLD(out_is(0, OUT_MOST, out_filling), line);
-        HOLD(room_is(0, ROOM_MOST, room_filling), line);
-    }
+    for (plan_len = 0; plan_len < HV_PLAN_LEN; plan_len++)
+        for (out_len = 0; out_len <= HV_PLACE_LEN + 3; out_len++) {
+            HOLD(ask(question, out_len) == HV_SHORT, line);
+            HOLD(out_is(0, OUT_MOST, out_filling), line);
+            HOLD(room_is(0, ROOM_MOST, room_filling), line);
+        }
+    HOLD(plan_len == HV_PLAN_LEN, line);
 }
 
-static void short_plans(enum question question, int line)
+/* Numbers behind those of a plan are not looked at. */
+static void long_plans(enum question question, const uint64_t *values, int line)
 {
-    for (plan_len = 0; plan_len < HV_PLAN_LEN; plan_len++) {
-        HOLD(ask(question, HV_PLACE_LEN) == HV_SHORT, line);
-        HOLD(out_is(0, OUT_MOST, out_filling), line);
-        HOLD(room_is(0, ROOM_MOST, room_filling), line);
-    }
-    HOLD(plan_len == HV_PLAN_LEN, line);
+    for (plan_len = HV_PLAN_LEN; plan_len <= PLAN_MOST; plan_len++)
+        accepted(question, values, answer_lens[question], line);
+    plan_len = HV_PLAN_LEN;
 }
 
 static void set_plan(const uint64_t *values)
 {
-    memcpy(plan, values, sizeof plan);
+    memcpy(plan, values, HV_PLAN_LEN * sizeof *plan);
+    plan[HV_PLAN_LEN] = 1;
+    plan[HV_PLAN_LEN + 1] = UINT64_MAX;
 }
 
 /* The small file (RULES.md 11.1): buckets of 64 bytes, the index text of 134 bytes in buckets 1, 3 and 4. */
@@ -201,7 +226,6 @@ static void ask_of_table(void)
     uint64_t k;
 
     ACCEPTED(DESCRIPTION, description);
-    SHORT_ARRAYS(DESCRIPTION);
 
     for (k = 0; k < 3; k++) {
         uint64_t column[HV_COLUMN_LEN] = {0};
@@ -215,10 +239,8 @@ static void ask_of_table(void)
         column[HV_COLUMN_BITS] = bits[k];
         column[HV_COLUMN_OFFSET] = offsets[k];
         ACCEPTED(COLUMN, column);
-        SHORT_ARRAYS(COLUMN);
         name = names[k];
         accepted(BY_NAME, &k, 1, __LINE__);
-        SHORT_ARRAYS(BY_NAME);
     }
     number = 3;
     REFUSED(COLUMN, HV_REFUSED_MISSING);
@@ -232,14 +254,13 @@ static void ask_of_table(void)
     number = 0;
     HOLD(memcmp(table.at + manager[HV_MANAGER_NAME], "StandardStMan", 13) == 0, __LINE__);
     ACCEPTED(MANAGER, manager);
-    SHORT_ARRAYS(MANAGER);
     number = 1;
     REFUSED(MANAGER, HV_REFUSED_MISSING);
 }
 
 static void ask_of_cells(void)
 {
-    const uint64_t none[] = {0};
+    const uint64_t bucket_size[] = {64};
     const uint64_t plans[3][HV_PLAN_LEN] = {{0, 0, HV_TYPE_INT, 1, 32, 0, 0, 4, 64},
                                             {1, 0, HV_TYPE_BOOL, 1, 1, 0, 16, 4, 64},
                                             {2, 0, HV_TYPE_DOUBLE, 1, 64, 0, 17, 4, 64}};
@@ -248,7 +269,7 @@ static void ask_of_cells(void)
     int i, k;
 
     number = 0;
-    ACCEPTED(CHECK, none);
+    ACCEPTED(CHECK, bucket_size);
     number = 1;
     REFUSED(CHECK, HV_REFUSED_MISSING);
     number = UINT64_MAX;
@@ -257,7 +278,6 @@ static void ask_of_cells(void)
     for (i = 0; i < 3; i++) {
         number = (uint64_t)i;
         ACCEPTED(PLAN, plans[i]);
-        SHORT_ARRAYS(PLAN);
     }
     number = 3;
     REFUSED(PLAN, HV_REFUSED_MISSING);
@@ -271,17 +291,15 @@ static void ask_of_cells(void)
         set_plan(plans[number]);
         ACCEPTED(PLACE, first_and_count);
         ACCEPTED(PLACE_PLANNED, first_and_count);
+        long_plans(PLACE_PLANNED, first_and_count, __LINE__);
         if (number == 1) {
             REFUSED(VIEW, HV_REFUSED_BOOL);
             REFUSED(VIEW_PLANNED, HV_REFUSED_BOOL);
         } else {
             ACCEPTED(VIEW, start_and_length);
             ACCEPTED(VIEW_PLANNED, start_and_length);
+            long_plans(VIEW_PLANNED, start_and_length, __LINE__);
         }
-        SHORT_ARRAYS(PLACE);
-        SHORT_ARRAYS(PLACE_PLANNED);
-        SHORT_ARRAYS(VIEW);
-        SHORT_ARRAYS(VIEW_PLANNED);
         short_plans(PLACE_PLANNED, __LINE__);
         short_plans(VIEW_PLANNED, __LINE__);
     }
@@ -302,7 +320,7 @@ static void ask_of_cells(void)
     /* Each number of a plan counts; a position without a column is no stale plan. */
     row = 7;
     for (i = 0; i < HV_PLAN_LEN; i++) {
-        uint64_t refusal = i == HV_PLAN_POSITION ? HV_REFUSED_MISSING : HV_REFUSED_PLAN;
+        enum hv_number refusal = i == HV_PLAN_POSITION ? HV_REFUSED_MISSING : HV_REFUSED_PLAN;
         set_plan(plans[2]);
         plan[i] += 1;
         REFUSED(PLACE_PLANNED, refusal);
@@ -322,13 +340,13 @@ static void ask_of_cells(void)
         REFUSED(VIEW_PLANNED, HV_REFUSED_ROOM);
     }
     room_len = HV_ROOM_MOST;
-    ACCEPTED(CHECK, none);
+    ACCEPTED(CHECK, bucket_size);
     ACCEPTED(PLAN, plans[0]);
     room_len = 134;
 }
 
 /* The questions from `first` on are refused, each with the same number. */
-static void refused_from(enum question first, uint64_t refusal, int line)
+static void refused_from(enum question first, enum hv_number refusal, int line)
 {
     const uint64_t scan[HV_PLAN_LEN] = {0, 0, HV_TYPE_INT, 1, 32, 0, 0, 4, 64};
     int question;
@@ -339,14 +357,14 @@ static void refused_from(enum question first, uint64_t refusal, int line)
     set_plan(scan);
     for (question = first; question <= VIEW_PLANNED; question++)
         refused((enum question)question, refusal, line);
-    short_arrays(PLAN, line);
-    short_arrays(VIEW, line);
+    short_plans(PLACE_PLANNED, line);
+    short_plans(VIEW_PLANNED, line);
 }
 
 struct fault {
     size_t at;
     uint8_t byte;
-    uint64_t refusal;
+    enum hv_number refusal;
 };
 
 static void ask_of_faults(void)
@@ -428,7 +446,7 @@ static void ask_of_incremental(const char *samples)
     const uint64_t scan_number[] = {4, 1, HV_TYPE_INT, 1, 32, 0, 0, 0, 128};
     const uint64_t place[] = {6368, 32};
     const uint64_t view[] = {796, 4};
-    const uint64_t none[] = {0};
+    const uint64_t bucket_size[] = {128};
 
     read_file(&table, samples, "arrays", "table.dat");
     read_file(&file, samples, "arrays", "table.f1");
@@ -441,7 +459,7 @@ static void ask_of_incremental(const char *samples)
     }
     for (room_len = 0; room_len <= 40; room_len += 40) {
         number = 1;
-        ACCEPTED(CHECK, none);
+        ACCEPTED(CHECK, bucket_size);
         number = 2; /* TiledShapeStMan */
         REFUSED(CHECK, HV_REFUSED_MISSING);
         number = 6; /* its column FLAG */
@@ -462,17 +480,56 @@ static void ask_of_incremental(const char *samples)
     }
 }
 
+#define WORDS(name, number, words) {name, number, words},
+
+/* Every number has words; those of the refusals are all different, and other numbers have none of them. */
+static void ask_for_words(void)
+{
+    static const struct {
+        enum hv_number name;
+        uint64_t number;
+        const char *words;
+    } known[] = {{HV_ACCEPTED, 0, "accepted"}, HV_REFUSALS(WORDS){HV_SHORT, 255, "the plan has too few numbers"}};
+    static const uint64_t unknown[] = {15,          16,  127, 128, 254, 256, UINT64_C(1) << 32, (UINT64_C(1) << 32) + 1,
+                                       UINT64_C(1) << 63, UINT64_MAX};
+    const size_t count = sizeof known / sizeof *known;
+    const char *words = hv_refusal_text(15);
+    char version[64];
+    size_t i, k;
+
+    HOLD(count == 16, __LINE__);
+    for (i = 0; i < count; i++) {
+        HOLD((uint64_t)known[i].name == known[i].number, __LINE__);
+        HOLD(i == 15 || known[i].number == i, __LINE__);
+        HOLD(strcmp(hv_refusal_text(known[i].number), known[i].words) == 0, __LINE__);
+        HOLD(strcmp(words, known[i].words) != 0, __LINE__);
+        for (k = 0; k < i; k++)
+            HOLD(strcmp(known[i].words, known[k].words) != 0, __LINE__);
+    }
+    for (i = 0; i < sizeof unknown / sizeof *unknown; i++)
+        HOLD(strcmp(hv_refusal_text(unknown[i]), words) == 0, __LINE__);
+    HOLD(strlen(words) > 0, __LINE__);
+    HOLD(strcmp(hv_refusal_text(9), "row not below the row count") == 0, __LINE__);
+
+    HOLD(strcmp(hv_version(), HV_VERSION) == 0, __LINE__);
+    snprintf(version, sizeof version, "%d.%d.%d", HV_VERSION_MAJOR, HV_VERSION_MINOR, HV_VERSION_PATCH);
+    HOLD(strcmp(hv_version(), version) == 0, __LINE__);
+}
+
 int main(int argc, char **argv)
 {
     if (argc != 2) {
         fprintf(stderr, "usage: questions SAMPLES\n");
         return 2;
     }
-    load_small(argv[1]);
-    ask_of_table();
-    ask_of_cells();
-    ask_of_faults();
-    ask_of_long_table();
-    ask_of_incremental(argv[1]);
+    ask_for_words();
+    for (is_null = 0; is_null < 2; is_null++) {
+        load_small(argv[1]);
+        ask_of_table();
+        ask_of_cells();
+        ask_of_faults();
+        ask_of_long_table();
+        ask_of_incremental(argv[1]);
+    }
     return 0;
 }

@@ -77,7 +77,7 @@ fn kind(table: &[u8], sequence: u64) -> Result<&'static str, u64> {
 
 fn check(table: &str, sequence: &str, file: &str, room: &str) -> Option<String> {
     let (table, sequence, file, mut room) = (bytes(table)?, number(sequence)?, bytes(file)?, lent(room)?);
-    let answer = library::check(&table, &file, sequence, &mut room).and_then(|()| kind(&table, sequence));
+    let answer = library::check(&table, &file, sequence, &mut room).and_then(|_| kind(&table, sequence));
     Some(with_room(answer.map(str::to_string), &room))
 }
 

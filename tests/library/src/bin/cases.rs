@@ -59,7 +59,7 @@ fn answer(pair: &Pair, question: &Question) -> String {
     let position = |name: &str| library::column_by_name(table, name.as_bytes());
     let mut room = vec![ROOM_FILL; ROOM];
     let told = match *question {
-        Check => library::check(table, file, 0, &mut room).map(|()| "accepted".to_string()),
+        Check => library::check(table, file, 0, &mut room).map(|_| "accepted".to_string()),
         Place { row, column } => position(column)
             .and_then(|position| library::place(table, file, row, position, &mut room))
             .map(|[first, count]| format!("bits {first} to {}", first + count - 1)),

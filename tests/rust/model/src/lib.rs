@@ -12,6 +12,7 @@ pub mod data_type;
 pub mod hex;
 mod incremental;
 pub mod listing;
+pub mod numbers;
 pub mod question;
 pub mod refusal;
 pub mod request;

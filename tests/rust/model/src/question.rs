@@ -30,15 +30,59 @@ pub struct Plan {
     pub bucket_size: u64,
 }
 
+impl Plan {
+    /// The plan with these numbers, in the order of its fields.
+    pub fn of(numbers: [u64; 9]) -> Self {
+        let [position, manager, data_type, elements, cell_bits, set, offset, rows_per_bucket, size] =
+            numbers;
+        Self {
+            position,
+            manager,
+            data_type,
+            elements,
+            cell_bits,
+            set,
+            offset,
+            rows_per_bucket,
+            bucket_size: size,
+        }
+    }
+
+    /// Its numbers, in the order of its fields.
+    pub fn numbers(&self) -> [u64; 9] {
+        [
+            self.position,
+            self.manager,
+            self.data_type,
+            self.elements,
+            self.cell_bits,
+            self.set,
+            self.offset,
+            self.rows_per_bucket,
+            self.bucket_size,
+        ]
+    }
+}
+
 /// Checks the file of the manager with this sequence number; gives its kind.
 pub fn check(table: &[u8], number: u64, file: &[u8], room: &mut [u8]) -> Result<Kind, u8> {
+    Ok(check_file(table, number, file, room)?.0)
+}
+
+/// The kind of the manager, and the bucket size of its file.
+pub(crate) fn check_file(
+    table: &[u8],
+    number: u64,
+    file: &[u8],
+    room: &mut [u8],
+) -> Result<(Kind, u64), u8> {
     zero_if_refused(room, |room| {
         let description = describe(table)?;
         let mut managers = description.managers.iter();
         let manager =
             managers.find(|manager| u64::from(manager.number) == number).ok_or(NO_SUCH)?;
-        File::check(&description, manager, file, room)?;
-        Ok(manager.kind)
+        let file = File::check(&description, manager, file, room)?;
+        Ok((manager.kind, file.bucket_size() as u64))
     })
 }
 
@@ -177,6 +221,13 @@ impl<'a> File<'a> {
             Kind::Other => return Err(NO_SUCH),
         })
     }
+
+    fn bucket_size(&self) -> usize {
+        match self {
+            Self::Standard(file) => file.bucket_size(),
+            Self::Incremental(file) => file.bucket_size(),
+        }
+    }
 }
 
 /// A column that is asked about, and its manager's file.
@@ -199,12 +250,9 @@ impl Asked<'_> {
 
     fn plan(&self) -> Plan {
         let column = self.column;
-        let (set, offset, rows_per_bucket, bucket_size) = match &self.file {
-            File::Standard(file) => {
-                let rows_per_bucket = file.rows_per_bucket(column.set);
-                (column.set, column.offset, rows_per_bucket, file.bucket_size())
-            }
-            File::Incremental(file) => (0, 0, 0, file.bucket_size()),
+        let (set, offset, rows_per_bucket) = match &self.file {
+            File::Standard(file) => (column.set, column.offset, file.rows_per_bucket(column.set)),
+            File::Incremental(_) => (0, 0, 0),
         };
         Plan {
             position: self.position as u64,
@@ -215,7 +263,7 @@ impl Asked<'_> {
             set: set.into(),
             offset: offset.into(),
             rows_per_bucket: rows_per_bucket.into(),
-            bucket_size: bucket_size as u64,
+            bucket_size: self.file.bucket_size() as u64,
         }
     }
 

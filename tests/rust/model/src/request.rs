@@ -81,40 +81,11 @@ fn lent(field: &str) -> Option<Vec<u8>> {
 /// A plan: its nine fields in the order of RULES.md 7.4.
 fn plan_of(field: &str) -> Option<Plan> {
     let fields: Vec<u64> = field.split(',').map(number).collect::<Option<_>>()?;
-    let [position, manager, data_type, elements, cell_bits, set, offset, rows_per_bucket, size] =
-        fields[..]
-    else {
-        return None;
-    };
-    Some(Plan {
-        position,
-        manager,
-        data_type,
-        elements,
-        cell_bits,
-        set,
-        offset,
-        rows_per_bucket,
-        bucket_size: size,
-    })
+    fields.try_into().ok().map(Plan::of)
 }
 
 fn plan_text(plan: Plan) -> String {
-    let Plan {
-        position,
-        manager,
-        data_type,
-        elements,
-        cell_bits,
-        set,
-        offset,
-        rows_per_bucket,
-        bucket_size,
-    } = plan;
-    format!(
-        "{position},{manager},{data_type},{elements},{cell_bits},{set},{offset},\
-         {rows_per_bucket},{bucket_size}"
-    )
+    plan.numbers().map(|number| number.to_string()).join(",")
 }
 
 fn kind_name(kind: Kind) -> String {

@@ -3,7 +3,9 @@
 mod common;
 
 use common::{Column, FLAG, SCAN, TIME, object, small_table, table, uint, uints};
-use model::{Kind, Plan, answer, check, hex, place, place_by_plan, plan, view, view_by_plan};
+use model::{
+    Kind, Plan, answer, check, hex, numbers, place, place_by_plan, plan, view, view_by_plan,
+};
 
 /// The header's numbers after its Bool.
 #[derive(Clone, Copy)]
@@ -240,6 +242,30 @@ fn plans() {
     // No such column, or another one.
     assert_eq!(view_by_plan(&table, &file, 5, &Plan { position: 3, ..fresh }, room), Err(8));
     assert_eq!(view_by_plan(&table, &file, 5, &Plan { position: 1, ..fresh }, room), Err(12));
+}
+
+#[test]
+fn answers_in_numbers() {
+    let (table, file) = (small_table(), small_file());
+    let room = &mut [0; 134];
+    assert_eq!(numbers::check(&table, &file, 0, room), Ok([64]));
+    assert_eq!(room[..], small_text());
+    assert_eq!(numbers::check(&table, &file, 1, room), Err(8));
+    assert_eq!(room, &[0; 134]);
+    let fresh = [2, 0, 8, 1, 64, 0, 17, 4, 64];
+    assert_eq!(numbers::plan(&table, &file, 2, room), Ok(fresh));
+    assert_eq!(numbers::place(&table, &file, 5, 2, room), Ok([8 * 537, 64]));
+    assert_eq!(numbers::place_planned(&table, &file, 5, fresh, room), Ok([8 * 537, 64]));
+    assert_eq!(numbers::view(&table, &file, 5, 2, room), Ok([537, 8]));
+    assert_eq!(numbers::view_planned(&table, &file, 5, fresh, room), Ok([537, 8]));
+    // Each number of a plan stands for its own field.
+    for number in 0..9 {
+        let mut stale = fresh;
+        stale[number] += 1;
+        let refusal = if number == 0 { 8 } else { 12 };
+        assert_eq!(numbers::place_planned(&table, &file, 5, stale, room), Err(refusal));
+        assert_eq!(numbers::view_planned(&table, &file, 5, stale, room), Err(refusal));
+    }
 }
 
 #[test]

@@ -2,8 +2,8 @@
 
 mod common;
 
-use common::small_table as small_file;
-use model::{DataType, Kind, answer, column, describe, listing};
+use common::{FLAG, SCAN, small_table as small_file, string, table};
+use model::{DataType, Kind, answer, column, describe, listing, numbers};
 
 /// The file after a change of the only place where these bytes stand.
 fn changed(old: &[u8], new: &[u8]) -> Vec<u8> {
@@ -43,6 +43,65 @@ fn is_described() {
     assert_eq!(description.managers[0].number, 0);
     assert_eq!(description.managers[0].name, b"StandardStMan");
     assert_eq!(description.managers[0].kind, Kind::Standard);
+}
+
+/// The small table with another manager, whose name stands once after the
+/// columns' descriptions.
+fn of_manager(name: &str) -> (Vec<u8>, usize) {
+    let mut file = small_file();
+    let old = string("StandardStMan");
+    let place = file.windows(old.len()).rposition(|bytes| bytes == old).unwrap();
+    file.splice(place..place + old.len(), string(name));
+    let length = file.len() as u32 - 4; // without the mark
+    file[4..8].copy_from_slice(&length.to_be_bytes());
+    (file, place + 4)
+}
+
+#[test]
+fn is_described_in_numbers() {
+    let file = small_file();
+    assert_eq!(numbers::description(&file), Ok([7, 1, 3, 1]));
+    // The name stands in the description before it stands in the binding.
+    let start = |name| {
+        let name = string(name);
+        file.windows(name.len()).position(|bytes| bytes == name).unwrap() as u64 + 4
+    };
+    let columns = [
+        [start("SCAN"), 4, 5, 0, 0, 1, 0, 32, 0, 0, 0],
+        [start("FLAG"), 4, 0, 0, 0, 1, 0, 1, 0, 0, 16],
+        [start("TIME"), 4, 8, 0, 0, 1, 0, 64, 0, 0, 17],
+    ];
+    for (position, column) in columns.into_iter().enumerate() {
+        assert_eq!(numbers::column(&file, position as u64), Ok(column));
+    }
+    for position in [3, 64, 1 << 32, 1 << 63, u64::MAX] {
+        assert_eq!(numbers::column(&file, position), Err(8));
+        assert_eq!(numbers::column(&file[..100], position), Err(1));
+        assert_eq!(numbers::manager(&file, position), Err(8));
+        assert_eq!(numbers::manager(&file[..100], position), Err(1));
+    }
+    assert_eq!(numbers::column_by_name(&file, b"TIME"), Ok([2]));
+    assert_eq!(numbers::column_by_name(&file, b"TIM"), Err(8));
+    assert_eq!(numbers::description(&file[..100]), Err(1));
+}
+
+#[test]
+fn a_direct_array_in_numbers() {
+    let flags = common::Column { elements: Some(8), offset: 0, ..FLAG };
+    let file = table(2, &[SCAN, flags]);
+    let column = numbers::column(&file, 1).unwrap();
+    assert_eq!(column[1..], [4, 0, 1, 5, 8, 0, 8, 0, 0, 0]);
+}
+
+#[test]
+fn managers_in_numbers() {
+    let kinds = [("StandardStMan", 1), ("IncrementalStMan", 2), ("TiledShapeStMan", 0), ("", 0)];
+    for (name, kind) in kinds {
+        let (file, start) = of_manager(name);
+        let manager = [0, kind, start as u64, name.len() as u64];
+        assert_eq!(numbers::manager(&file, 0), Ok(manager), "{name}");
+        assert_eq!(numbers::manager(&file, 1), Err(8));
+    }
 }
 
 #[test]

@@ -203,6 +203,7 @@ impl Buckets {
         }
         let length = header.len().min(bytes.len());
         bytes[..length].copy_from_slice(&header[..length]);
+        bytes.reserve_exact(after.len()); // the file may have gigabytes
         bytes.extend_from_slice(after);
         if let Some(length) = self.torn_at {
             bytes.truncate(length);

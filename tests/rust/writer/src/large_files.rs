@@ -1,5 +1,6 @@
 //! Files at the limits of the Ranges (RULES.md 8.2): 4,096 buckets, an index text of
-//! 65,536 bytes, 64 columns, 16 sets, buckets of 1,048,576 bytes.
+//! 65,536 bytes, 64 columns, 16 sets, buckets of 1,048,576 bytes; and files with
+//! all of these buckets, which have more than 4 GiB.
 
 use crate::buckets::{Buckets, Subject};
 use crate::cells;
@@ -8,7 +9,7 @@ use crate::lean;
 use crate::questions::Asked;
 use crate::rng::Rng;
 use crate::standard::{self, FreeSpace, Index, LINKS, StandardFile};
-use crate::table::{BOOL, Column, INT, Manager, SHORT, UCHAR};
+use crate::table::{BOOL, Column, DCOMPLEX, DOUBLE, INT, Manager, SHORT, STRING, Table, UCHAR};
 
 const BUCKETS: u32 = 4096;
 const TEXT: usize = 65_536;
@@ -139,10 +140,120 @@ pub fn large_bucket(rng: &mut Rng, variant: u64) -> Subject<StandardFile> {
     Subject { table, number: 0, file }
 }
 
+/// Buckets from the first to the last, of which the last 512 bytes are above
+/// 4 GiB, and the index's.
+const SPREAD: [u32; 8] = [BUCKETS - 1, 0, 511, 512, 2048, 513, 4000, BUCKETS - 2];
+const INDEX_BUCKET: u32 = 1;
+
+/// StandardStMan above 4 GiB: columns at the end of buckets, 4 rows in each.
+/// The bytes that are not zero are few.
+pub fn standard_above_4_gib(endianness: u32) -> Subject<StandardFile> {
+    let rows_per_bucket = 4;
+    let rows = rows_per_bucket * SPREAD.len() as u32 - 1;
+    let mut columns = vec![
+        Column::scalar(INT, ""),
+        Column::direct(BOOL, "", &[11]),
+        Column::scalar(DOUBLE, ""),
+        Column::direct(DCOMPLEX, "", &[3]),
+        Column::scalar(STRING, "").string_maximum(16),
+        Column::scalar(BOOL, ""),
+        Column::scalar(SHORT, ""),
+    ];
+    let mut end = LARGEST;
+    for column in columns.iter_mut().rev() {
+        end -= cells::extent(column, rows_per_bucket) as u32;
+        column.info.offset = end;
+    }
+    columns.push(Column::scalar(UCHAR, "").at(0, 0));
+    let table = lean::bare(rows, endianness, columns, vec![Manager::new("StandardStMan", 3)]);
+    let entries: Vec<(u32, u32)> = (1..)
+        .zip(SPREAD)
+        .map(|(count, bucket)| ((rows_per_bucket * count).min(rows) - 1, bucket))
+        .collect();
+    let index = Index::new(rows_per_bucket, table.columns().len(), &entries);
+    let buckets = Buckets::new("StandardStMan", 3, endianness, LARGEST, BUCKETS);
+    let file = StandardFile::new(buckets, vec![INDEX_BUCKET], vec![index]);
+    of_manager_3(table, file)
+}
+
+/// StandardStMan above 4 GiB: a Bool in each of as many rows as a bucket may
+/// have, in the last bucket and others.
+pub fn bools_above_4_gib(endianness: u32) -> Subject<StandardFile> {
+    let rows_per_bucket = 8 * LARGEST;
+    let rows = rows_per_bucket * SPREAD.len() as u32;
+    let columns = vec![Column::scalar(BOOL, "")];
+    let table = lean::bare(rows, endianness, columns, vec![Manager::new("StandardStMan", 3)]);
+    let entries: Vec<(u32, u32)> =
+        (1..).zip(SPREAD).map(|(count, bucket)| (rows_per_bucket * count - 1, bucket)).collect();
+    let buckets = Buckets::new("StandardStMan", 3, endianness, LARGEST, BUCKETS);
+    let index = Index::new(rows_per_bucket, 1, &entries);
+    of_manager_3(table, StandardFile::new(buckets, vec![INDEX_BUCKET], vec![index]))
+}
+
+/// IncrementalStMan above 4 GiB: values at the end of the data part, two for
+/// the four rows of each bucket.
+pub fn incremental_above_4_gib(endianness: u32) -> Subject<IncrementalFile> {
+    let rows_of_bucket = 4;
+    let columns = vec![
+        Column::scalar(INT, ""),
+        Column::direct(BOOL, "", &[9]),
+        Column::scalar(STRING, ""),
+        Column::scalar(DOUBLE, ""),
+    ];
+    let index = columns.len() * (4 + 2 * 8);
+    let length = LARGEST - incremental::DATA_START - index as u32;
+    let data = SPREAD.map(|number| {
+        let mut end = length;
+        let mut values = |column: &Column| {
+            end -= 2 * cells::extent(column, 1) as u32;
+            let second = end + cells::extent(column, 1) as u32;
+            Values { count: None, starts: vec![0, 3], offsets: vec![end, second] }
+        };
+        let columns = columns.iter().map(&mut values).collect();
+        DataBucket { number, index_offset: None, data: vec![0; length as usize], columns }
+    });
+    let first_rows = (0..=SPREAD.len() as u32).map(|entry| rows_of_bucket * entry).collect();
+    let rows = rows_of_bucket * SPREAD.len() as u32;
+    let table = lean::bare(rows, endianness, columns, vec![Manager::new("IncrementalStMan", 3)]);
+    let buckets = Buckets::new("IncrementalStMan", 5, endianness, LARGEST, BUCKETS);
+    let file = IncrementalFile::new(buckets, endianness == 1, first_rows, data.into());
+    of_manager_3(table, file)
+}
+
+/// The subject of a table's only manager, number 3.
+fn of_manager_3<F>(mut table: Table, file: F) -> Subject<F> {
+    for column in table.columns_mut() {
+        column.info.manager = 3;
+    }
+    table.write_infos();
+    Subject { table, number: 3, file }
+}
+
 #[cfg(test)]
 mod tests {
     use super::*;
     use crate::buckets::BucketFile;
+
+    /// Some cells begin above 2^32 bits, and some above 2^32 bytes; these are
+    /// the largest that there are.
+    fn assert_above<F: BucketFile>(subject: &Subject<F>) {
+        let own = subject.own_columns().into_iter();
+        let mut with_place =
+            own.filter(|position| subject.file.has_place(&subject.table.columns()[*position]));
+        let position = with_place.next().expect("a column with places");
+        let place = |row| subject.file.place(&subject.table, position, row).0;
+        assert!(place(2) > 1 << 35, "{}", place(2));
+        let above = (0..subject.table.rows).step_by(2).take(32).filter(|row| place(*row) > 1 << 32);
+        assert!(above.count() > 10);
+    }
+
+    #[test]
+    fn cells_are_above_4_gib() {
+        assert_above(&standard_above_4_gib(0));
+        assert_above(&incremental_above_4_gib(1));
+        let bools = bools_above_4_gib(0);
+        assert!(bools.file.place(&bools.table, 0, 8_388_607).0 > 1 << 35);
+    }
 
     #[test]
     fn files_are_at_the_limits() {

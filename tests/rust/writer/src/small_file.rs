@@ -2,7 +2,6 @@
 //! each of them.
 
 use crate::buckets::{BucketFile, Subject};
-use crate::hex::hex;
 use crate::questions::Asked;
 use crate::samples;
 use crate::standard::{Index, StandardFile};
@@ -27,7 +26,15 @@ pub fn lines() -> impl Iterator<Item = String> + Send {
         let asked = Asked::new(&subject);
         [rooms(&asked), cells(&asked)].concat()
     });
-    answers.chain(variants().into_iter().flat_map(variant_lines)).chain(torn()).chain(changes())
+    let spoilt = torn().chain(changes()).map(|asked| asked.check(0, ROOM));
+    answers.chain(variants().into_iter().flat_map(variant_lines)).chain(spoilt)
+}
+
+/// The file in both byte orders, its variants, its prefixes, and its changes of
+/// one byte.
+pub fn cases() -> impl Iterator<Item = Asked> + Send {
+    let files = [small(1), small(0)].into_iter().chain(variants());
+    files.map(|subject| Asked::new(&subject)).chain(torn()).chain(changes())
 }
 
 /// The file in one of the byte orders.
@@ -198,36 +205,32 @@ fn eight_bools() -> Small {
 }
 
 /// Every prefix of the file.
-fn torn() -> impl Iterator<Item = String> + Send {
-    let mut asked = Asked::new(&small(1));
-    let whole = asked.file.clone();
-    (0..=whole.len()).map(move |length| {
-        asked.file = whole[..length].to_vec();
-        asked.check(0, ROOM)
-    })
+fn torn() -> impl Iterator<Item = Asked> + Send {
+    let whole = Asked::new(&small(1));
+    (0..=whole.file.len())
+        .map(move |length| Asked { file: whole.file[..length].to_vec(), ..whole.clone() })
 }
 
 /// Changes of each byte of the header and of the index buckets.
-fn changes() -> impl Iterator<Item = String> + Send {
+fn changes() -> impl Iterator<Item = Asked> + Send {
     let subject = small(1);
-    let table = hex(&subject.table.encode());
-    let whole = subject.file.encode();
+    let whole = Asked::new(&subject);
     let header = 0..subject.file.header().len();
     let index = [1, 3, 4].into_iter().flat_map(move |bucket| {
         let start = subject.file.buckets.start(bucket);
         start..start + 64
     });
     header.chain(index).flat_map(move |place| {
-        let byte = whole[place];
+        let byte = whole.file[place];
         let mut values = vec![0, 1, 2, 255, byte ^ 1, byte ^ 0x80, byte.wrapping_add(1)];
         values.sort_unstable();
         values.dedup();
         values.retain(|value| *value != byte);
-        let (table, whole) = (table.clone(), whole.clone());
+        let whole = whole.clone();
         values.into_iter().map(move |value| {
-            let mut file = whole.clone();
-            file[place] = value;
-            format!("check {table} 0 {} {ROOM}", hex(&file))
+            let mut changed = whole.clone();
+            changed.file[place] = value;
+            changed
         })
     })
 }

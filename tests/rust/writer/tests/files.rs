@@ -32,11 +32,12 @@ fn assert_answer<F: BucketFile>(subject: &Subject<F>, expect: Expect, what: &str
 
 /// A good file is accepted, and every cell is where the writer put it.
 fn assert_cells<F: BucketFile>(subject: &Subject<F>, number: u64, is_standard: bool) {
-    assert_eq!(refusal(subject), 0, "case {number}");
     let table = subject.table.encode();
     let file = subject.file.encode();
     let length = subject.file.index_length();
     let mut room = vec![0xA5; length];
+    let checked = model::numbers::check(&table, &file, subject.number.into(), &mut room);
+    assert_eq!(checked, Ok([subject.file.buckets().size.into()]), "case {number}");
     let mut rows = subject.file.border_rows();
     rows.extend([0, 1, subject.table.rows / 2, subject.table.rows.wrapping_sub(1)]);
     rows.retain(|row| *row < subject.table.rows);
@@ -44,19 +45,8 @@ fn assert_cells<F: BucketFile>(subject: &Subject<F>, number: u64, is_standard: b
     let rows: Vec<u32> = rows.into_iter().step_by(step).collect();
     for position in subject.own_columns() {
         let column = &subject.table.columns()[position];
-        let fields = model::plan(&table, &file, position as u64, &mut room).map(|plan| {
-            [
-                plan.position,
-                plan.manager,
-                plan.data_type,
-                plan.elements,
-                plan.cell_bits,
-                plan.set,
-                plan.offset,
-                plan.rows_per_bucket,
-                plan.bucket_size,
-            ]
-        });
+        let plan = model::plan(&table, &file, position as u64, &mut room);
+        let fields = plan.map(|plan| plan.numbers());
         let position = position as u64;
         assert_eq!(
             subject.file.has_place(column),
@@ -174,6 +164,15 @@ fn large_files_are_accepted() {
         assert_cells(&large_files::standard(rng), number, true);
         assert_cells(&large_files::incremental(rng), number, false);
         assert_eq!(refusal(&large_files::large_bucket(rng, number)), 0);
+    }
+}
+
+#[test]
+fn files_above_4_gib_are_accepted() {
+    for endianness in [0, 1] {
+        assert_cells(&large_files::standard_above_4_gib(endianness), 0, true);
+        assert_cells(&large_files::bools_above_4_gib(endianness), 1, true);
+        assert_cells(&large_files::incremental_above_4_gib(endianness), 2, false);
     }
 }
 

@@ -1,0 +1,254 @@
+/*
+ * Wrong libraries: every function of include/helvidrane.h, one of them made wrong in the way that HELVIDRANE_FAULT names:
+ * `KIND FUNCTION [NUMBER]`, or `none`. They are linked before the library (ld's --wrap); tests/numbers has the list of faults.
+ */
+#include "helvidrane.h"
+
+#include <stdio.h>
+#include <stdlib.h>
+#include <string.h>
+
+#define REAL(name) __real_##name
+#define SHIM(name) __wrap_##name
+
+enum { OUT_MOST = 16 };
+
+static struct {
+    int is_read;
+    char kind[32], function[32];
+    size_t number;
+} fault;
+
+static int is(const char *kind, const char *function)
+{
+    const char *text;
+
+    if (!fault.is_read) {
+        int words;
+        text = getenv("HELVIDRANE_FAULT");
+        words = text == NULL ? 0 : sscanf(text, "%31s %31s %zu", fault.kind, fault.function, &fault.number);
+        if (words < 2 && strcmp(fault.kind, "none") != 0) {
+            fprintf(stderr, "shims: HELVIDRANE_FAULT names no fault\n");
+            exit(2);
+        }
+        fault.is_read = 1;
+    }
+    return strcmp(fault.kind, kind) == 0 && strcmp(fault.function, function) == 0;
+}
+
+static uint64_t cut(uint64_t number)
+{
+    return number & UINT32_MAX;
+}
+
+/* What a caller passes, which is argument `k` of the function, cut to 32 bits. */
+static uint64_t passed(const char *function, size_t k, uint64_t number)
+{
+    return is("narrow", function) && fault.number == k ? cut(number) : number;
+}
+
+/* A call: the function, the length of its answer, and what it is lent to write. */
+struct lent {
+    const char *function;
+    size_t answer_len;
+    uint8_t *room;
+    size_t room_len;
+    uint64_t *out;
+    size_t out_len;
+    uint64_t scratch[OUT_MOST]; /* for an answer that is not handed on */
+};
+
+/* A short `out` is not written. */
+static uint64_t *out_of(struct lent *lent)
+{
+    return is("short", lent->function) && lent->out_len < lent->answer_len ? lent->scratch : lent->out;
+}
+
+/* The answer of the library, which is right, made wrong. */
+static enum hv_number spoilt(struct lent *lent, enum hv_number number)
+{
+    const char *function = lent->function;
+    uint64_t *out = lent->out;
+    size_t k = fault.number;
+    size_t i, written = lent->out_len < lent->answer_len ? lent->out_len : lent->answer_len;
+
+    if (number == HV_SHORT) {
+        /* A short plan clears the room or `out`, */
+        if (is("short-plan-clears-room", function) && lent->room_len > 0)
+            lent->room[0] = 0;
+        if (is("short-plan-clears-out", function) && lent->out_len > 0)
+            out[0] = 0;
+        /* or is taken for a stale one. */
+        return is("short-plan-stale", function) ? HV_REFUSED_PLAN : number;
+    }
+    /* A number behind the answer is written, inside `out` or behind it. */
+    if (is("behind", function) && lent->out_len > lent->answer_len)
+        out[lent->answer_len] = 0;
+    if (is("past", function) && lent->out_len < lent->answer_len)
+        out[lent->out_len] = 0;
+    if (number != HV_ACCEPTED) {
+        /* `out` or the room is not cleared. */
+        if (is("out-kept", function) && written > 0)
+            out[written - 1] = 1;
+        if (is("room-kept", function) && lent->room_len > 0)
+            lent->room[lent->room_len - 1] = 0xa5;
+        /* One refusal is taken for the next. */
+        return is("refusal", function) && number == k ? (enum hv_number)(number % HV_REFUSED_BOOL + 1) : number;
+    }
+    /* A number of the answer is always 0, or it is cut to 32 bits. */
+    if (is("zero", function) && k < written)
+        out[k] = 0;
+    if (is("cut", function) && k < written)
+        out[k] = cut(out[k]);
+    /* Five numbers of hv_column are 0: the array, the options, the string maximum, the set and the offset. */
+    if (is("five-zeros", function))
+        for (i = 0; i < written; i++)
+            if (i == 3 || i == 4 || i == 6 || i == 9 || i == 10)
+                out[i] = 0;
+    /* The index text is not written, or what stands behind it is not cleared. */
+    if (is("text-missing", function) && lent->room_len > 0)
+        lent->room[0] = 0;
+    if (is("tail-kept", function) && lent->room_len > 0 && lent->room[lent->room_len - 1] == 0)
+        lent->room[lent->room_len - 1] = 0xa5;
+    return number;
+}
+
+enum hv_number REAL(hv_description)(const uint8_t *, size_t, uint64_t *, size_t);
+enum hv_number SHIM(hv_description)(const uint8_t *, size_t, uint64_t *, size_t);
+enum hv_number SHIM(hv_description)(const uint8_t *table, size_t table_len, uint64_t *out, size_t out_len)
+{
+    struct lent lent = {"hv_description", HV_DESCRIPTION_LEN, NULL, 0, out, out_len, {0}};
+
+    return spoilt(&lent, REAL(hv_description)(table, table_len, out_of(&lent), out_len));
+}
+
+enum hv_number REAL(hv_column)(const uint8_t *, size_t, uint64_t, uint64_t *, size_t);
+enum hv_number SHIM(hv_column)(const uint8_t *, size_t, uint64_t, uint64_t *, size_t);
+enum hv_number SHIM(hv_column)(const uint8_t *table, size_t table_len, uint64_t position, uint64_t *out, size_t out_len)
+{
+    struct lent lent = {"hv_column", HV_COLUMN_LEN, NULL, 0, out, out_len, {0}};
+
+    position = passed(lent.function, 0, position);
+    return spoilt(&lent, REAL(hv_column)(table, table_len, position, out_of(&lent), out_len));
+}
+
+enum hv_number REAL(hv_manager)(const uint8_t *, size_t, uint64_t, uint64_t *, size_t);
+enum hv_number SHIM(hv_manager)(const uint8_t *, size_t, uint64_t, uint64_t *, size_t);
+enum hv_number SHIM(hv_manager)(const uint8_t *table, size_t table_len, uint64_t index, uint64_t *out, size_t out_len)
+{
+    struct lent lent = {"hv_manager", HV_MANAGER_LEN, NULL, 0, out, out_len, {0}};
+
+    index = passed(lent.function, 0, index);
+    return spoilt(&lent, REAL(hv_manager)(table, table_len, index, out_of(&lent), out_len));
+}
+
+enum hv_number REAL(hv_column_by_name)(const uint8_t *, size_t, const uint8_t *, size_t, uint64_t *, size_t);
+enum hv_number SHIM(hv_column_by_name)(const uint8_t *, size_t, const uint8_t *, size_t, uint64_t *, size_t);
+enum hv_number SHIM(hv_column_by_name)(const uint8_t *table, size_t table_len, const uint8_t *name, size_t name_len,
+                                       uint64_t *out, size_t out_len)
+{
+    struct lent lent = {"hv_column_by_name", HV_POSITION_LEN, NULL, 0, out, out_len, {0}};
+
+    return spoilt(&lent, REAL(hv_column_by_name)(table, table_len, name, name_len, out_of(&lent), out_len));
+}
+
+typedef enum hv_number of_file(const uint8_t *, size_t, const uint8_t *, size_t, uint64_t, uint8_t *, size_t, uint64_t *,
+                               size_t);
+of_file REAL(hv_check), SHIM(hv_check), REAL(hv_plan), SHIM(hv_plan);
+
+enum hv_number SHIM(hv_check)(const uint8_t *table, size_t table_len, const uint8_t *file, size_t file_len, uint64_t sequence,
+                              uint8_t *room, size_t room_len, uint64_t *out, size_t out_len)
+{
+    struct lent lent = {"hv_check", HV_CHECK_LEN, room, room_len, out, out_len, {0}};
+
+    sequence = passed(lent.function, 0, sequence);
+    /* The number is not written. */
+    if (is("without-number", lent.function))
+        return REAL(hv_check)(table, table_len, file, file_len, sequence, room, room_len, lent.scratch, out_len);
+    return spoilt(&lent, REAL(hv_check)(table, table_len, file, file_len, sequence, room, room_len, out_of(&lent), out_len));
+}
+
+enum hv_number SHIM(hv_plan)(const uint8_t *table, size_t table_len, const uint8_t *file, size_t file_len, uint64_t position,
+                             uint8_t *room, size_t room_len, uint64_t *out, size_t out_len)
+{
+    struct lent lent = {"hv_plan", HV_PLAN_LEN, room, room_len, out, out_len, {0}};
+
+    position = passed(lent.function, 0, position);
+    return spoilt(&lent, REAL(hv_plan)(table, table_len, file, file_len, position, room, room_len, out_of(&lent), out_len));
+}
+
+typedef enum hv_number by_position(const uint8_t *, size_t, const uint8_t *, size_t, uint64_t, uint64_t, uint8_t *, size_t,
+                                   uint64_t *, size_t);
+by_position REAL(hv_place), SHIM(hv_place), REAL(hv_view), SHIM(hv_view);
+
+enum hv_number SHIM(hv_place)(const uint8_t *table, size_t table_len, const uint8_t *file, size_t file_len, uint64_t row,
+                              uint64_t position, uint8_t *room, size_t room_len, uint64_t *out, size_t out_len)
+{
+    struct lent lent = {"hv_place", HV_PLACE_LEN, room, room_len, out, out_len, {0}};
+
+    row = passed(lent.function, 0, row);
+    position = passed(lent.function, 1, position);
+    return spoilt(&lent, REAL(hv_place)(table, table_len, file, file_len, row, position, room, room_len, out_of(&lent),
+                                        out_len));
+}
+
+enum hv_number SHIM(hv_view)(const uint8_t *table, size_t table_len, const uint8_t *file, size_t file_len, uint64_t row,
+                             uint64_t position, uint8_t *room, size_t room_len, uint64_t *out, size_t out_len)
+{
+    struct lent lent = {"hv_view", HV_VIEW_LEN, room, room_len, out, out_len, {0}};
+
+    row = passed(lent.function, 0, row);
+    position = passed(lent.function, 1, position);
+    return spoilt(&lent, REAL(hv_view)(table, table_len, file, file_len, row, position, room, room_len, out_of(&lent),
+                                       out_len));
+}
+
+typedef enum hv_number by_plan(const uint8_t *, size_t, const uint8_t *, size_t, uint64_t, const uint64_t *, size_t,
+                               uint8_t *, size_t, uint64_t *, size_t);
+by_plan REAL(hv_place_planned), SHIM(hv_place_planned), REAL(hv_view_planned), SHIM(hv_view_planned);
+
+static enum hv_number planned(struct lent *lent, by_plan *real, const uint8_t *table, size_t table_len, const uint8_t *file,
+                              size_t file_len, uint64_t row, const uint64_t *plan, size_t plan_len)
+{
+    static uint8_t room[HV_ROOM_MOST];
+    const char *function = lent->function;
+    int one_passes = is("not-compared", function), all_pass = is("never-stale", function), tenth = is("tenth", function);
+    uint64_t asked[HV_PLAN_LEN], fresh[HV_PLAN_LEN];
+    size_t i;
+
+    row = passed(function, 0, row);
+    if (plan_len >= HV_PLAN_LEN) {
+        for (i = 0; i < HV_PLAN_LEN; i++)
+            asked[i] = passed(function, 1, plan[i]);
+        if ((one_passes || all_pass || tenth) &&
+            REAL(hv_plan)(table, table_len, file, file_len, asked[0], room, sizeof room, fresh, HV_PLAN_LEN) == HV_ACCEPTED) {
+            /* A number of the plan is not compared, or none is, so that 12 is never given; or a tenth one is, with 0. */
+            for (i = 0; i < HV_PLAN_LEN; i++)
+                if (all_pass || (one_passes && i == fault.number))
+                    asked[i] = fresh[i];
+            if (tenth && plan_len > HV_PLAN_LEN && plan[HV_PLAN_LEN] != 0)
+                asked[HV_PLAN_BUCKET_SIZE] ^= 1;
+        }
+        plan = asked;
+    }
+    return spoilt(lent, real(table, table_len, file, file_len, row, plan, plan_len, lent->room, lent->room_len, out_of(lent),
+                             lent->out_len));
+}
+
+enum hv_number SHIM(hv_place_planned)(const uint8_t *table, size_t table_len, const uint8_t *file, size_t file_len,
+                                      uint64_t row, const uint64_t *plan, size_t plan_len, uint8_t *room, size_t room_len,
+                                      uint64_t *out, size_t out_len)
+{
+    struct lent lent = {"hv_place_planned", HV_PLACE_LEN, room, room_len, out, out_len, {0}};
+
+    return planned(&lent, REAL(hv_place_planned), table, table_len, file, file_len, row, plan, plan_len);
+}
+
+enum hv_number SHIM(hv_view_planned)(const uint8_t *table, size_t table_len, const uint8_t *file, size_t file_len,
+                                     uint64_t row, const uint64_t *plan, size_t plan_len, uint8_t *room, size_t room_len,
+                                     uint64_t *out, size_t out_len)
+{
+    struct lent lent = {"hv_view_planned", HV_VIEW_LEN, room, room_len, out, out_len, {0}};
+
+    return planned(&lent, REAL(hv_view_planned), table, table_len, file, file_len, row, plan, plan_len);
+}

@@ -1,0 +1,461 @@
+//! Compares every number of every C function with the model's: the number that it gives, what it writes into `out` of every
+//! length, and the room. The first difference ends it.
+
+use crate::Question::{self, *};
+use crate::{PLAN, SHORT};
+use std::collections::BTreeMap;
+use std::fmt::{self, Write as _};
+use std::path::{Path, PathBuf};
+use std::process::ExitCode;
+use writer::buckets::{BucketFile, Subject};
+use writer::questions::Asked;
+use writer::rng::Rng;
+use writer::{file_cases, large_files, sets, small_file};
+
+const OUT_FILL: u64 = 0xA5A5_A5A5_A5A5_A5A5;
+const ROOM_FILL: u8 = 0xA5;
+/// What is not lent, before and behind `out` and the room.
+const MARGIN: usize = 4;
+/// `out` has from none to these many numbers more than the answer.
+const LONGER: usize = 3;
+/// A plan has from none to these many numbers more than nine.
+const LONGER_PLAN: usize = 2;
+
+/// A table, a file that may be one of its managers', and what is asked of them.
+struct Case {
+    table: Vec<u8>,
+    file: Vec<u8>,
+    /// The room that the file needs, if it is right.
+    room: usize,
+    /// Rows that are asked for, besides those that are not there.
+    rows: Vec<u64>,
+    /// Whether every column is asked for each of these rows, or only some.
+    is_whole: bool,
+}
+
+impl Case {
+    /// Some of the rows.
+    fn some(asked: Asked, rng: &mut Rng) -> Self {
+        let mut rows = vec![0, u64::from(asked.rows).saturating_sub(1)];
+        if !asked.border_rows.is_empty() {
+            rows.extend([0; 2].map(|_| u64::from(rng.pick(&asked.border_rows))));
+        }
+        rows.push(rng.number() % u64::from(asked.rows).max(1));
+        rows.dedup();
+        Self { room: room_for(asked.index_length), table: asked.table, file: asked.file, rows, is_whole: false }
+    }
+
+    /// Rows beside all borders, of a good file.
+    fn whole<F: BucketFile>(subject: &Subject<F>) -> Self {
+        let rows = u64::from(subject.table.rows);
+        let borders = subject.file.border_rows().into_iter().map(u64::from).filter(|row| *row < rows);
+        let mut rows: Vec<u64> = [0, 1, 2, rows - 1].into_iter().chain(borders).collect();
+        rows.sort_unstable();
+        rows.dedup();
+        let room = subject.file.index_length();
+        Self { table: subject.table.encode(), file: subject.file.encode(), room, rows, is_whole: true }
+    }
+}
+
+/// A stated index length may be out of range.
+fn room_for(index_length: usize) -> usize {
+    if index_length <= 65_536 {
+        index_length
+    } else {
+        200
+    }
+}
+
+/// A call whose answer is not the model's.
+struct Difference {
+    question: String,
+    function: &'static str,
+    lent: String,
+    model: String,
+    library: String,
+}
+
+impl fmt::Display for Difference {
+    fn fmt(&self, f: &mut fmt::Formatter<'_>) -> fmt::Result {
+        let Self { question, function, lent, model, library } = self;
+        write!(f, "difference in {function}: {question}, {lent}\n  model:   {model}\n  library: {library}")
+    }
+}
+
+type Compared = Result<(), Difference>;
+
+/// What a function leaves behind: its number, and `out` and the room with what is not lent around them.
+struct Left {
+    number: u64,
+    out: Vec<u64>,
+    room: Vec<u8>,
+}
+
+impl Left {
+    /// The number, and the first of `out` and of the room that is not as in the other.
+    fn shown(&self, other: &Self) -> String {
+        let mut text = self.number.to_string();
+        if let Some(k) = (0..self.out.len()).find(|k| self.out[*k] != other.out[*k]) {
+            let _ = write!(text, ", out[{}] is {:#x}", k as i64 - MARGIN as i64, self.out[k]);
+        }
+        if let Some(k) = (0..self.room.len()).find(|k| self.room[*k] != other.room[*k]) {
+            let _ = write!(text, ", room[{}] is {:#04x}", k as i64 - MARGIN as i64, self.room[k]);
+        }
+        text
+    }
+}
+
+/// The model's answer.
+fn expected(question: &Question<'_>, table: &[u8], file: &[u8], room: &mut [u8]) -> Result<Vec<u64>, u64> {
+    use model::numbers;
+    let first_nine = |plan: &[u64]| plan.first_chunk::<PLAN>().copied().ok_or(SHORT);
+    let answer = match *question {
+        Description => numbers::description(table).map(Vec::from),
+        Column { position } => numbers::column(table, position).map(Vec::from),
+        Manager { index } => numbers::manager(table, index).map(Vec::from),
+        ColumnByName { name } => numbers::column_by_name(table, name).map(Vec::from),
+        Check { sequence } => numbers::check(table, file, sequence, room).map(Vec::from),
+        Plan { position } => numbers::plan(table, file, position, room).map(Vec::from),
+        Place { row, position } => numbers::place(table, file, row, position, room).map(Vec::from),
+        PlacePlanned { row, plan } => numbers::place_planned(table, file, row, first_nine(plan)?, room).map(Vec::from),
+        View { row, position } => numbers::view(table, file, row, position, room).map(Vec::from),
+        ViewPlanned { row, plan } => numbers::view_planned(table, file, row, first_nine(plan)?, room).map(Vec::from),
+    };
+    answer.map_err(u64::from)
+}
+
+/// What was compared so far.
+#[derive(Default)]
+pub struct Comparison {
+    calls: u64,
+    /// How often each function gave each number, by questions.
+    given: BTreeMap<(&'static str, u64), u64>,
+    /// The largest first number that each function gave.
+    largest: BTreeMap<&'static str, u64>,
+}
+
+impl Comparison {
+    /// Asks a question with `out` of every length.
+    fn ask(&mut self, table: &[u8], file: &[u8], room_len: usize, question: Question<'_>) -> Compared {
+        let mut room = vec![ROOM_FILL; MARGIN + room_len + MARGIN];
+        let lent = MARGIN..MARGIN + room_len;
+        let answer = expected(&question, table, file, &mut room[lent.clone()]);
+        let number = answer.as_ref().err().copied().unwrap_or(0);
+        *self.given.entry((question.function(), number)).or_default() += 1;
+        if let Ok(numbers) = &answer {
+            let largest = self.largest.entry(question.function()).or_default();
+            *largest = numbers[0].max(*largest);
+        }
+        let n = question.answer_len();
+        let written = match answer {
+            Ok(numbers) => numbers,
+            Err(SHORT) => Vec::new(),
+            Err(_) => vec![0; n],
+        };
+        let most = MARGIN + n + LONGER + MARGIN;
+        let mut model = Left { number, out: vec![OUT_FILL; most], room };
+        let mut library = Left { number: 0, out: vec![OUT_FILL; most], room: vec![ROOM_FILL; model.room.len()] };
+        for out_len in 0..=n + LONGER {
+            let count = written.len().min(out_len);
+            model.out.fill(OUT_FILL);
+            model.out[MARGIN..][..count].copy_from_slice(&written[..count]);
+            library.out.fill(OUT_FILL);
+            library.room.fill(ROOM_FILL);
+            let out = &mut library.out[MARGIN..][..out_len];
+            library.number = question.ask(table, file, &mut library.room[lent.clone()], out);
+            self.calls += 1;
+            if (library.number, &library.out, &library.room) != (model.number, &model.out, &model.room) {
+                return Err(Difference {
+                    question: format!("{question:?}"),
+                    function: question.function(),
+                    lent: format!("room of {room_len}, out of {out_len}, files of {} and {}", table.len(), file.len()),
+                    model: model.shown(&library),
+                    library: library.shown(&model),
+                });
+            }
+        }
+        Ok(())
+    }
+
+    /// What table.dat says: all columns and managers and some that are not there, and names.
+    fn table(&mut self, table: &[u8]) -> Compared {
+        let described = model::describe(table);
+        let (columns, managers) =
+            described.as_ref().map_or((1, 1), |d| (d.columns.len() as u64, d.managers.len() as u64));
+        let mut ask = |question: Question<'_>| self.ask(table, &[], 0, question);
+        ask(Description)?;
+        for position in (0..columns).chain(absent(columns, columns - 1)) {
+            ask(Column { position })?;
+        }
+        for index in (0..managers).chain(absent(managers, managers - 1)) {
+            ask(Manager { index })?;
+        }
+        for name in [&b"TIME"[..], b"", b"NO_SUCH_COLUMN"] {
+            ask(ColumnByName { name })?;
+        }
+        for column in described.iter().flat_map(|d| &d.columns) {
+            ask(ColumnByName { name: column.name })?;
+            ask(ColumnByName { name: &column.name[1..] })?;
+            ask(ColumnByName { name: &[column.name, b"S"].concat() })?;
+        }
+        Ok(())
+    }
+
+    /// What the file says, and the table before it.
+    fn file(&mut self, case: &Case, rng: &mut Rng) -> Compared {
+        let Case { table, file, room, rows, is_whole } = case;
+        let room = *room;
+        self.table(table)?;
+        let described = model::describe(table).ok();
+        let (columns, row_count) = described.as_ref().map_or((1, 1), |d| (d.columns.len() as u64, u64::from(d.rows)));
+        let mut ask = |room, question: Question<'_>| self.ask(table, file, room, question);
+
+        let managers = described.iter().flat_map(|d| &d.managers);
+        let mut sequences: Vec<u64> = managers.map(|manager| manager.number.into()).collect();
+        let absent_sequences: Vec<u64> = absent(1000, sequences.first().copied().unwrap_or(0)).collect();
+        sequences.extend(absent_sequences);
+        for sequence in sequences {
+            for room in [room, room + 9, room.saturating_sub(1), 0] {
+                ask(room, Check { sequence })?;
+            }
+        }
+
+        // Columns with a plan in this file; if there is none, the file is refused or is another manager's.
+        let mut planned = Vec::new();
+        for position in (0..columns).chain(absent(columns, columns - 1)) {
+            ask(room, Plan { position })?;
+            if let Ok(plan) = model::numbers::plan(table, file, position, &mut vec![0; room]) {
+                planned.push(plan);
+            }
+        }
+        let mut cells = planned.clone();
+        if cells.is_empty() {
+            cells.push([rng.below(columns as usize) as u64, 0, 5, 1, 32, 0, 0, 4, 64]);
+        } else if !is_whole {
+            rng.shuffle(&mut cells);
+            cells.truncate(3);
+        }
+        for plan in &cells {
+            let position = plan[0];
+            for row in rows.iter().copied().chain(absent(row_count, rows[0])) {
+                ask(room, Place { row, position })?;
+                ask(room, PlacePlanned { row, plan })?;
+                ask(room, View { row, position })?;
+                ask(room, ViewPlanned { row, plan })?;
+            }
+        }
+
+        // One column with other rooms, plans that are stale or too short or too long, and positions that are not there.
+        let fresh = cells[0];
+        let row = rows[rng.below(rows.len())];
+        for position in absent(columns, fresh[0]) {
+            let plan = &mut fresh.clone();
+            plan[0] = position;
+            ask(room, Place { row, position })?;
+            ask(room, PlacePlanned { row, plan })?;
+            ask(room, View { row, position })?;
+            ask(room, ViewPlanned { row, plan })?;
+        }
+        for room in [room + 9, room.saturating_sub(1), 0] {
+            ask(room, Plan { position: fresh[0] })?;
+            ask(room, Place { row, position: fresh[0] })?;
+            ask(room, PlacePlanned { row, plan: &fresh })?;
+            ask(room, View { row, position: fresh[0] })?;
+            ask(room, ViewPlanned { row, plan: &fresh })?;
+        }
+        for number in 0..PLAN {
+            for other in [fresh[number] + 1, fresh[number] + (1 << 32), fresh[number] ^ 1 << rng.below(64), 0] {
+                let mut plan = fresh;
+                plan[number] = other;
+                ask(room, PlacePlanned { row, plan: &plan })?;
+                ask(room, ViewPlanned { row, plan: &plan })?;
+            }
+        }
+        for plan_len in 0..=PLAN + LONGER_PLAN {
+            let mut plan = fresh.to_vec();
+            plan.extend([rng.number(), rng.number()]);
+            for row in [row, row_count] {
+                ask(room, PlacePlanned { row, plan: &plan[..plan_len] })?;
+                ask(room, ViewPlanned { row, plan: &plan[..plan_len] })?;
+            }
+        }
+        Ok(())
+    }
+
+    /// What must have been asked: each function accepted, and refused with each number that the header names for it.
+    fn missing(&self) -> Vec<String> {
+        let of_file = [1, 2, 3, 4, 5, 6, 7, 8, 10, 11, 13];
+        let (of_table, of_position) = (&of_file[..7], &of_file[..8]);
+        let with = |more: &[u64]| [&of_file, more].concat();
+        let needed = [
+            ("hv_description", of_table.to_vec()),
+            ("hv_column", of_position.to_vec()),
+            ("hv_manager", of_position.to_vec()),
+            ("hv_column_by_name", of_position.to_vec()),
+            ("hv_check", with(&[])),
+            ("hv_plan", with(&[])),
+            ("hv_place", with(&[9])),
+            ("hv_place_planned", with(&[9, 12, SHORT])),
+            ("hv_view", with(&[9, 14])),
+            ("hv_view_planned", with(&[9, 12, 14, SHORT])),
+        ];
+        let mut missing = Vec::new();
+        for (function, numbers) in needed {
+            let given: Vec<u64> =
+                self.given.keys().filter(|(f, n)| *f == function && *n > 0).map(|(_, n)| *n).collect();
+            let mut numbers = numbers;
+            numbers.sort_unstable();
+            if given != numbers {
+                missing.push(format!("{function} is to be refused with {numbers:?}, and was with {given:?}"));
+            }
+            if !self.given.contains_key(&(function, 0)) {
+                missing.push(format!("{function} was not accepted"));
+            }
+        }
+        missing
+    }
+
+    /// A file above 4 GiB: cells of it that begin above 4 GiB must be among the answers of each of these functions.
+    fn above_4_gib(&mut self, case: &Case, rng: &mut Rng, functions: &[&'static str]) -> Result<(), String> {
+        self.largest.clear();
+        self.file(case, rng).map_err(|difference| difference.to_string())?;
+        for function in functions {
+            let in_bytes = if function.starts_with("hv_view") { 1 } else { 8 };
+            if self.largest.get(function).is_none_or(|largest| largest / in_bytes <= 1 << 32) {
+                return Err(format!("{function} gave no cell above 4 GiB"));
+            }
+        }
+        Ok(())
+    }
+}
+
+/// Numbers that are not below `count`, some of which are the `good` one, cut to 32 bits or less.
+fn absent(count: u64, good: u64) -> impl Iterator<Item = u64> {
+    let far = [1 << 31, 1 << 32, (1 << 32) + good, 1 << 63, (1 << 63) + good, u64::MAX];
+    [count, count + 1].into_iter().chain(far.into_iter().filter(move |number| *number > count + 1))
+}
+
+/// The samples: each table with each file, and with none.
+fn samples() -> Vec<(PathBuf, Case)> {
+    let read = |path: &Path| std::fs::read(path).unwrap_or_else(|error| panic!("{}: {error}", path.display()));
+    let entries = |path: &Path| {
+        let mut paths: Vec<PathBuf> = std::fs::read_dir(path)
+            .expect("samples are in samples/")
+            .map(|entry| entry.expect("an entry").path())
+            .collect();
+        paths.sort();
+        paths
+    };
+    let mut cases = Vec::new();
+    for sample in entries(Path::new("samples")) {
+        let table = read(&sample.join("table.dat"));
+        let rows = model::describe(&table).map_or(1, |description| u64::from(description.rows));
+        let is_file =
+            |path: &PathBuf| path.file_name().is_some_and(|name| name.to_string_lossy().starts_with("table.f"));
+        let files = entries(&sample).into_iter().filter(is_file).map(|path| (read(&path), path));
+        for (file, path) in files.chain([(Vec::new(), sample)]) {
+            let room = room_needed(&table, &file);
+            cases.push((path, Case { table: table.clone(), file, room, rows: (0..rows).collect(), is_whole: true }));
+        }
+    }
+    cases
+}
+
+/// The shortest room with which the model accepts a file for one of the managers.
+fn room_needed(table: &[u8], file: &[u8]) -> usize {
+    let managers = model::describe(table).map_or(Vec::new(), |d| d.managers.iter().map(|m| m.number.into()).collect());
+    let is_enough =
+        |len: usize| managers.iter().any(|number| model::check(table, *number, file, &mut vec![0; len]).is_ok());
+    let (mut low, mut high) = (0, 65_536);
+    while low < high {
+        let middle = (low + high) / 2;
+        if is_enough(middle) {
+            high = middle;
+        } else {
+            low = middle + 1;
+        }
+    }
+    if is_enough(low) {
+        low
+    } else {
+        200
+    }
+}
+
+fn compare(comparison: &mut Comparison, seed: u64, count: u64) -> Result<(), String> {
+    let rng = |number| Rng::new(seed, number);
+    let at = |what: &str, number: u64, compared: Compared| compared.map_err(|d| format!("{what} {number}: {d}"));
+    for (number, (path, case)) in (0..).zip(samples()) {
+        comparison.file(&case, &mut rng(number)).map_err(|d| format!("{}: {d}", path.display()))?;
+    }
+    // Above 4 GiB: few bytes of each file are not zero, and memory that is not touched costs nothing. One file at a time.
+    let places = ["hv_place", "hv_place_planned"];
+    let all = ["hv_place", "hv_place_planned", "hv_view", "hv_view_planned"];
+    for endianness in [0, 1] {
+        let above: [(&dyn Fn() -> Case, &[&str]); 3] = [
+            (&|| Case::whole(&large_files::standard_above_4_gib(endianness)), &all),
+            (&|| Case::whole(&large_files::bools_above_4_gib(endianness)), &places), // Bools have no views
+            (&|| Case::whole(&large_files::incremental_above_4_gib(endianness)), &all),
+        ];
+        for (number, (make, functions)) in (0..).zip(above) {
+            let compared = comparison.above_4_gib(&make(), &mut rng(number), functions);
+            compared.map_err(|what| format!("above 4 GiB {number}: {what}"))?;
+        }
+    }
+    for number in 0..count {
+        at("tables", number, comparison.table(&sets::case(&mut rng(number)).bytes))?;
+    }
+    for (number, asked) in (0..).zip(small_file::cases()) {
+        let rng = &mut rng(number);
+        at("small file", number, comparison.file(&Case::some(asked, rng), rng))?;
+    }
+    for number in 0..count {
+        let rng = &mut rng(number);
+        let case = Case::some(file_cases::standard(rng), rng);
+        at("standard", number, comparison.file(&case, rng))?;
+    }
+    for number in 0..count {
+        let rng = &mut rng(number);
+        let case = Case::some(file_cases::incremental(rng), rng);
+        at("incremental", number, comparison.file(&case, rng))?;
+    }
+    // At the limits of the ranges.
+    for number in 0..count.min(10) {
+        let rng = &mut rng(number);
+        at("large tables", number, comparison.table(&sets::large_case(rng).bytes))?;
+        let case = Case::some(large_files::case(rng, number), rng);
+        at("large files", number, comparison.file(&case, rng))?;
+    }
+    Ok(())
+}
+
+pub fn main() -> ExitCode {
+    let words: Vec<String> = std::env::args().skip(1).collect();
+    let numbers: Option<Vec<u64>> = words.iter().map(|word| word.parse().ok()).collect();
+    let (seed, count) = match numbers.as_deref() {
+        Some([]) => (1, 2000),
+        Some([seed, count]) => (*seed, *count),
+        _ => {
+            eprintln!("usage: numbers [SEED COUNT]");
+            return ExitCode::from(2);
+        }
+    };
+    let mut comparison = Comparison::default();
+    if let Err(difference) = compare(&mut comparison, seed, count) {
+        println!("numbers: {difference}");
+        return ExitCode::FAILURE;
+    }
+    for ((function, number), count) in &comparison.given {
+        println!("{function} {number}: {count}");
+    }
+    let missing = comparison.missing();
+    for what in &missing {
+        println!("numbers: {what}");
+    }
+    println!("numbers: {} calls, no difference", comparison.calls);
+    if missing.is_empty() {
+        ExitCode::SUCCESS
+    } else {
+        ExitCode::FAILURE
+    }
+}

@@ -1,0 +1,126 @@
+//! The answers as runs of numbers, in the order of include/helvidrane.h.
+
+use crate::question::{self, Plan};
+use crate::refusal::NO_SUCH;
+use crate::table::{self, Kind, describe};
+use std::ops::Range;
+
+/// Row count, byte order (1: big endian), columns, managers.
+pub fn description(table: &[u8]) -> Result<[u64; 4], u8> {
+    let description = describe(table)?;
+    Ok([
+        description.rows.into(),
+        description.big_endian.into(),
+        description.columns.len() as u64,
+        description.managers.len() as u64,
+    ])
+}
+
+/// Name start and length, data type, array, options, elements, string maximum,
+/// cell bits, sequence number, set, offset of the column at a position.
+pub fn column(table: &[u8], position: u64) -> Result<[u64; 11], u8> {
+    let description = describe(table)?;
+    let column = at(&description.columns, position)?;
+    let [start, length] = place_in(table, column.name);
+    Ok([
+        start,
+        length,
+        column.data_type.number() as u64,
+        column.is_array.into(),
+        column.options as u64,
+        column.elements.into(),
+        column.string_maximum.into(),
+        column.cell_bits.into(),
+        column.manager.into(),
+        column.set.into(),
+        column.offset.into(),
+    ])
+}
+
+/// Sequence number, kind, name start and length of the manager at an index.
+pub fn manager(table: &[u8], index: u64) -> Result<[u64; 4], u8> {
+    let description = describe(table)?;
+    let manager = at(&description.managers, index)?;
+    let kind = match manager.kind {
+        Kind::Other => 0,
+        Kind::Standard => 1,
+        Kind::Incremental => 2,
+    };
+    let [start, length] = place_in(table, manager.name);
+    Ok([manager.number.into(), kind, start, length])
+}
+
+/// The position of the column with this name.
+pub fn column_by_name(table: &[u8], name: &[u8]) -> Result<[u64; 1], u8> {
+    Ok([table::column(table, name)? as u64])
+}
+
+/// The bucket size of the file of the manager with this sequence number.
+pub fn check(table: &[u8], file: &[u8], sequence: u64, room: &mut [u8]) -> Result<[u64; 1], u8> {
+    let (_, bucket_size) = question::check_file(table, sequence, file, room)?;
+    Ok([bucket_size])
+}
+
+/// The plan of the column at a position.
+pub fn plan(table: &[u8], file: &[u8], position: u64, room: &mut [u8]) -> Result<[u64; 9], u8> {
+    Ok(question::plan(table, file, position, room)?.numbers())
+}
+
+/// First bit and bit count of a cell.
+pub fn place(
+    table: &[u8],
+    file: &[u8],
+    row: u64,
+    position: u64,
+    room: &mut [u8],
+) -> Result<[u64; 2], u8> {
+    Ok(question::place(table, file, row, position, room)?.into())
+}
+
+/// The same for the plan's column.
+pub fn place_planned(
+    table: &[u8],
+    file: &[u8],
+    row: u64,
+    plan: [u64; 9],
+    room: &mut [u8],
+) -> Result<[u64; 2], u8> {
+    Ok(question::place_by_plan(table, file, row, &Plan::of(plan), room)?.into())
+}
+
+/// Start and length, in bytes, of the part of the file that holds a cell.
+pub fn view(
+    table: &[u8],
+    file: &[u8],
+    row: u64,
+    position: u64,
+    room: &mut [u8],
+) -> Result<[u64; 2], u8> {
+    question::view_range(table, file, row, position, room).map(start_and_length)
+}
+
+/// The same for the plan's column.
+pub fn view_planned(
+    table: &[u8],
+    file: &[u8],
+    row: u64,
+    plan: [u64; 9],
+    room: &mut [u8],
+) -> Result<[u64; 2], u8> {
+    question::view_range_by_plan(table, file, row, &Plan::of(plan), room).map(start_and_length)
+}
+
+/// What stands at a place that may be any 64-bit number.
+fn at<T>(items: &[T], index: u64) -> Result<&T, u8> {
+    usize::try_from(index).ok().and_then(|index| items.get(index)).ok_or(NO_SUCH)
+}
+
+/// Where a part of the table's bytes begins in them, and its length.
+fn place_in(table: &[u8], part: &[u8]) -> [u64; 2] {
+    let start = part.as_ptr().addr() - table.as_ptr().addr();
+    [start as u64, part.len() as u64]
+}
+
+fn start_and_length(range: Range<usize>) -> [u64; 2] {
+    [range.start as u64, range.len() as u64]
+}
