@@ -1,0 +1,407 @@
+/* hv cell: where a cell is kept, and its bytes. */
+#include "command.h"
+#include "files.h"
+#include "json.h"
+#include "messages.h"
+#include "names.h"
+#include "table.h"
+
+#include <errno.h>
+#include <inttypes.h>
+#include <stdio.h>
+#include <stdlib.h>
+#include <string.h>
+
+/* Where the data of a manager's file begins: behind the header. */
+enum { BUCKETS_START = 512 };
+
+struct question {
+    const char *directory;
+    struct bytes column;
+    uint64_t row;
+};
+
+/* The answer, found out whole before any of it is printed. */
+struct answer {
+    struct verdict verdict;
+    char *file; /* that the verdict is about, escaped */
+    bool has_table; /* table.dat is accepted, and the next is right */
+    uint64_t rows;
+    bool has_column; /* and these are */
+    uint64_t column[HV_COLUMN_LEN];
+    uint64_t plan[HV_PLAN_LEN]; /* this and what follows are right where the verdict is accepted */
+    uint64_t place[HV_PLACE_LEN];
+    bool is_bits; /* the cell is no run of whole bytes */
+    uint8_t *cell; /* the bytes that hold the cell, copied */
+    uint64_t cell_len;
+};
+
+/* The question to a manager's file. */
+struct search {
+    struct bytes table;
+    struct bytes file;
+    uint64_t row;
+    uint64_t position;
+    struct answer *answer;
+    uint64_t number;
+    bool is_beyond; /* the place lies not in the file, so the bytes changed from one question to the next */
+};
+
+static uint8_t room[HV_ROOM_MOST];
+
+static uint64_t first_byte(const struct answer *answer)
+{
+    return answer->place[HV_PLACE_FIRST_BIT] / 8;
+}
+
+static uint64_t last_byte(const struct answer *answer)
+{
+    return (answer->place[HV_PLACE_FIRST_BIT] + answer->place[HV_PLACE_BIT_COUNT] - 1) / 8;
+}
+
+static void copy_cell(struct search *search, uint64_t start, uint64_t len)
+{
+    search->is_beyond = start > search->file.len || len > search->file.len - start;
+    if (search->is_beyond)
+        return;
+    search->answer->cell = memory(len, 1);
+    search->answer->cell_len = len;
+    memcpy(search->answer->cell, search->file.at + start, len);
+}
+
+/* Plan, place and view, each after a check of the file. The first that is refused decides. */
+static void search_file(void *what)
+{
+    struct search *search = what;
+    struct answer *answer = search->answer;
+    struct bytes table = search->table, file = search->file;
+    uint64_t view[HV_VIEW_LEN];
+
+    search->number = hv_plan(table.at, table.len, file.at, file.len, search->position, room, sizeof room, answer->plan,
+                             HV_PLAN_LEN);
+    if (search->number != HV_ACCEPTED)
+        return;
+    search->number = hv_place(table.at, table.len, file.at, file.len, search->row, search->position, room, sizeof room,
+                              answer->place, HV_PLACE_LEN);
+    if (search->number != HV_ACCEPTED)
+        return;
+    search->number = hv_view(table.at, table.len, file.at, file.len, search->row, search->position, room, sizeof room, view,
+                             HV_VIEW_LEN);
+    if (search->number == HV_REFUSED_BOOL) {
+        search->number = HV_ACCEPTED;
+        answer->is_bits = true;
+        copy_cell(search, first_byte(answer), last_byte(answer) - first_byte(answer) + 1);
+    } else if (search->number == HV_ACCEPTED) {
+        copy_cell(search, view[HV_VIEW_START], view[HV_VIEW_LENGTH]);
+    }
+}
+
+static void decide(struct answer *answer, uint64_t number, const char *file)
+{
+    answer->verdict.outcome = number == HV_ACCEPTED ? OUTCOME_ACCEPTED : OUTCOME_REFUSED;
+    answer->verdict.number = number;
+    free(answer->file);
+    answer->file = text("%s", file);
+}
+
+/* Takes over the reason. */
+static void fail(struct answer *answer, char *why, const char *file)
+{
+    decide(answer, HV_ACCEPTED, file);
+    answer->verdict.outcome = OUTCOME_NOT_READ;
+    answer->verdict.why = why;
+    answer->has_table = false;
+    answer->has_column = false;
+}
+
+static void ask_file(struct answer *answer, const struct question *question, const struct file *table, uint64_t position)
+{
+    struct file file;
+    char *why = file_open_manager(&file, question->directory, answer->column[HV_COLUMN_SEQUENCE]);
+    struct search search = {table->bytes, file.bytes, question->row, position, answer, 0, false};
+
+    if (why == NULL)
+        why = file_use(&file, search_file, &search);
+    if (why == NULL)
+        why = file_changed(&file);
+    if (why == NULL && search.is_beyond)
+        why = text("%s changed while it was read", file.shown);
+    if (why != NULL)
+        fail(answer, why, file.shown);
+    else
+        decide(answer, search.number, search.number == HV_REFUSED_ROW ? table->shown : file.shown);
+    file_close(&file);
+}
+
+static void ask_table(struct answer *answer, const struct question *question, const struct file *table)
+{
+    uint64_t description[HV_DESCRIPTION_LEN], position[HV_POSITION_LEN], plan[HV_PLAN_LEN];
+    struct bytes bytes = table->bytes, column = question->column;
+    uint64_t number = hv_description(bytes.at, bytes.len, description, HV_DESCRIPTION_LEN);
+
+    answer->has_table = number == HV_ACCEPTED;
+    answer->rows = description[HV_DESCRIPTION_ROWS];
+    if (number == HV_ACCEPTED)
+        number = hv_column_by_name(bytes.at, bytes.len, column.at, column.len, position, HV_POSITION_LEN);
+    if (number == HV_ACCEPTED) {
+        number = hv_column(bytes.at, bytes.len, *position, answer->column, HV_COLUMN_LEN);
+        answer->has_column = number == HV_ACCEPTED;
+    }
+    /* A column without places is refused before the file is looked at, so it needs none. */
+    if (number == HV_ACCEPTED && hv_plan(bytes.at, bytes.len, nothing.at, nothing.len, *position, room, sizeof room, plan,
+                                         HV_PLAN_LEN) == HV_REFUSED_MISSING)
+        number = HV_REFUSED_MISSING;
+    if (number == HV_ACCEPTED)
+        ask_file(answer, question, table, *position);
+    else
+        decide(answer, number, table->shown);
+}
+
+static void ask(struct answer *answer, const struct question *question)
+{
+    struct file table;
+    char *why = file_open_table(&table, question->directory);
+
+    *answer = (struct answer){0};
+    if (why == NULL) {
+        ask_table(answer, question, &table);
+        why = answer->verdict.outcome == OUTCOME_NOT_READ ? NULL : file_changed(&table);
+    }
+    if (why != NULL)
+        fail(answer, why, table.shown);
+    file_close(&table);
+}
+
+static void print_refusal(const struct answer *answer, const struct question *question)
+{
+    char *column = escaped(question->column);
+    uint64_t number = answer->verdict.number;
+
+    printf("refused %" PRIu64 "\n%s: %s", number, answer->file, verdict_reason(&answer->verdict));
+    if (number == HV_REFUSED_MISSING && answer->has_column)
+        printf(" (column \"%s\", of type %s, of manager %" PRIu64 ")", column,
+               data_type_name(answer->column[HV_COLUMN_DATA_TYPE]), answer->column[HV_COLUMN_SEQUENCE]);
+    else if (number == HV_REFUSED_MISSING)
+        printf(" (no column \"%s\")", column);
+    else if (number == HV_REFUSED_ROW)
+        printf(" (row %" PRIu64 ", row count %" PRIu64 ")", question->row, answer->rows);
+    printf("\n");
+    free(column);
+}
+
+static void print_plan(const uint64_t *plan)
+{
+    printf("plan\n");
+    printf("  position         %" PRIu64 "\n", plan[HV_PLAN_POSITION]);
+    printf("  sequence number  %" PRIu64 "\n", plan[HV_PLAN_SEQUENCE]);
+    printf("  data type        %" PRIu64 " (%s)\n", plan[HV_PLAN_DATA_TYPE], data_type_name(plan[HV_PLAN_DATA_TYPE]));
+    printf("  element count    %" PRIu64 "\n", plan[HV_PLAN_ELEMENTS]);
+    printf("  cell bits        %" PRIu64 "\n", plan[HV_PLAN_BITS]);
+    printf("  set              %" PRIu64 "\n", plan[HV_PLAN_SET]);
+    printf("  offset           %" PRIu64 "\n", plan[HV_PLAN_OFFSET]);
+    printf("  rows per bucket  %" PRIu64 "\n", plan[HV_PLAN_ROWS_PER_BUCKET]);
+    printf("  bucket size      %" PRIu64 "\n", plan[HV_PLAN_BUCKET_SIZE]);
+}
+
+static uint64_t bucket_of(const struct answer *answer)
+{
+    return (first_byte(answer) - BUCKETS_START) / answer->plan[HV_PLAN_BUCKET_SIZE];
+}
+
+static uint64_t bucket_start(const struct answer *answer)
+{
+    return BUCKETS_START + bucket_of(answer) * answer->plan[HV_PLAN_BUCKET_SIZE];
+}
+
+static void print_bytes(const struct answer *answer)
+{
+    uint64_t i;
+
+    for (i = 0; i < answer->cell_len; i++)
+        printf("%s%02x%s", i % 16 == 0 ? "  " : " ", answer->cell[i], i % 16 == 15 || i + 1 == answer->cell_len ? "\n" : "");
+}
+
+/* The bit `i` of the cell, counted from its first; bits count from a byte's lowest. */
+static int bit_of(const struct answer *answer, uint64_t i)
+{
+    uint64_t bit = answer->place[HV_PLACE_FIRST_BIT] % 8 + i;
+
+    return answer->cell[bit / 8] >> bit % 8 & 1;
+}
+
+static void print_bits(const struct answer *answer)
+{
+    uint64_t count = answer->place[HV_PLACE_BIT_COUNT];
+    uint64_t i;
+
+    for (i = 0; i < count; i++)
+        printf("%s%d%s", i % 64 == 0 ? "  " : "", bit_of(answer, i), i % 64 == 63 || i + 1 == count ? "\n" : "");
+}
+
+static void print_cell(const struct answer *answer, const struct question *question)
+{
+    uint64_t first = answer->place[HV_PLACE_FIRST_BIT];
+    uint64_t count = answer->place[HV_PLACE_BIT_COUNT];
+    char *column = escaped(question->column);
+
+    printf("column \"%s\" row %" PRIu64 " in %s\n", column, question->row, answer->file);
+    print_plan(answer->plan);
+    printf("bucket %" PRIu64 ", bytes %" PRIu64 " to %" PRIu64 "\n", bucket_of(answer), bucket_start(answer),
+           bucket_start(answer) + answer->plan[HV_PLAN_BUCKET_SIZE] - 1);
+    printf("first bit %" PRIu64 ", bit count %" PRIu64 "\n", first, count);
+    printf("bytes %" PRIu64 " to %" PRIu64, first_byte(answer), last_byte(answer));
+    if (answer->is_bits) {
+        printf(", bits %" PRIu64 " to %" PRIu64 "\n", first, first + count - 1);
+        print_bits(answer);
+    } else {
+        printf("\n");
+        print_bytes(answer);
+    }
+    free(column);
+}
+
+static void json_known(const char *name, bool is_known, uint64_t number)
+{
+    if (is_known)
+        json_number(name, number);
+    else
+        json_null(name);
+}
+
+/* The cell as a text: hex digits, or a digit for each bit. */
+static char *cell_text(const struct answer *answer)
+{
+    uint64_t count = answer->is_bits ? answer->place[HV_PLACE_BIT_COUNT] : answer->cell_len;
+    char *made = memory(count, 2);
+    char *end = made;
+    uint64_t i;
+
+    *end = '\0';
+    for (i = 0; i < count; i++)
+        end += answer->is_bits ? sprintf(end, "%d", bit_of(answer, i)) : sprintf(end, "%02x", answer->cell[i]);
+    return made;
+}
+
+static void json_place(const struct answer *answer)
+{
+    bool is_known = answer->verdict.outcome == OUTCOME_ACCEPTED;
+    const uint64_t *plan = answer->plan;
+    char *cell = is_known ? cell_text(answer) : NULL;
+
+    json_known("position", is_known, plan[HV_PLAN_POSITION]);
+    json_known("elements", is_known, plan[HV_PLAN_ELEMENTS]);
+    json_known("cell_bits", is_known, plan[HV_PLAN_BITS]);
+    json_known("set", is_known, plan[HV_PLAN_SET]);
+    json_known("offset", is_known, plan[HV_PLAN_OFFSET]);
+    json_known("rows_per_bucket", is_known, plan[HV_PLAN_ROWS_PER_BUCKET]);
+    json_known("bucket_size", is_known, plan[HV_PLAN_BUCKET_SIZE]);
+    json_known("bucket", is_known, is_known ? bucket_of(answer) : 0);
+    json_known("bucket_start", is_known, is_known ? bucket_start(answer) : 0);
+    json_known("first_bit", is_known, answer->place[HV_PLACE_FIRST_BIT]);
+    json_known("bit_count", is_known, answer->place[HV_PLACE_BIT_COUNT]);
+    json_known("first_byte", is_known, first_byte(answer));
+    json_known("last_byte", is_known, last_byte(answer));
+    json_text("bytes", answer->is_bits ? NULL : cell);
+    json_text("bits", answer->is_bits ? cell : NULL);
+    free(cell);
+}
+
+static void json_answer(const struct answer *answer, const struct question *question)
+{
+    char *directory = escaped_text(question->directory);
+    char *column = escaped(question->column);
+
+    json_begin("cell", verdict_status(&answer->verdict), answer->verdict.why);
+    json_text("directory", directory);
+    json_text("column", column);
+    json_number("row", question->row);
+    json_text("file", answer->file);
+    json_verdict(&answer->verdict);
+    json_known("rows", answer->has_table, answer->rows);
+    json_known("manager", answer->has_column, answer->column[HV_COLUMN_SEQUENCE]);
+    json_known("data_type", answer->has_column, answer->column[HV_COLUMN_DATA_TYPE]);
+    json_text("type", answer->has_column ? data_type_name(answer->column[HV_COLUMN_DATA_TYPE]) : NULL);
+    json_place(answer);
+    json_end();
+    free(directory);
+    free(column);
+}
+
+/* Decimal digits alone, up to 64 bits. */
+static bool read_number(const char *given, uint64_t *number)
+{
+    size_t len = strlen(given);
+
+    if (len == 0 || strspn(given, "0123456789") != len)
+        return false;
+    errno = 0;
+    *number = strtoull(given, NULL, 10);
+    return errno == 0;
+}
+
+static int answer_question(const struct question *question, bool is_json)
+{
+    struct answer answer;
+    int status;
+
+    ask(&answer, question);
+    status = verdict_status(&answer.verdict);
+    if (is_json)
+        json_answer(&answer, question);
+    else if (status == STATUS_ACCEPTED)
+        print_cell(&answer, question);
+    else if (status == STATUS_REFUSED)
+        print_refusal(&answer, question);
+    if (status == STATUS_NOT_ASKED)
+        complain("%s", answer.verdict.why);
+    free(answer.verdict.why);
+    free(answer.file);
+    free(answer.cell);
+    return status;
+}
+
+static int misused_row(const char *given)
+{
+    char *shown = escaped_text(given);
+    int status = misused(&cell_command, "ROW is a whole number from 0 to %" PRIu64 ", not '%s'", UINT64_MAX, shown);
+
+    free(shown);
+    return status;
+}
+
+static int cell(const struct arguments *given)
+{
+    struct question question = {given->at[0], nothing, 0};
+    uint8_t *column;
+    int status;
+
+    if (!read_number(given->at[2], &question.row))
+        return misused_row(given->at[2]);
+    if (unescaped(given->at[1], &column, &question.column.len)) {
+        question.column.at = column;
+        status = answer_question(&question, given->json);
+    } else {
+        status = misused(&cell_command, "in COLUMN a backslash begins \\xNN, a byte in two hex digits; write \\x5c for a "
+                                        "backslash itself");
+    }
+    free(column);
+    return status;
+}
+
+const struct command cell_command = {
+    .name = "cell",
+    .usage = "[--json] DIR COLUMN ROW",
+    .summary = "where a cell is kept, and its bytes",
+    .help = "Finds the cell of a column and a row, from 0, in the Casacore table in a directory. Prints the\n"
+            "column's plan; the bucket that holds the cell, and its bytes in the file; the cell's first bit and bit\n"
+            "count, counted from the file's start; and the cell's bytes in hex. Of a Bool column in StandardStMan,\n"
+            "whose cells need not be whole bytes, it prints the bits, first to last; bits count from a byte's lowest.\n"
+            "COLUMN is the name as 'hv list' prints it between the quotes: \\xNN stands for a byte, \\x5c for a\n"
+            "backslash.\n"
+            "A refusal prints its number, then the file that it is about and why.\n",
+    .least = 3,
+    .most = 3,
+    .json = true,
+    .directory = true,
+    .run = cell,
+};

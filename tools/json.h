@@ -1,0 +1,21 @@
+/* JSON on standard output: one object, whose fields follow one another. A name is null for an item of a list. */
+#ifndef JSON_H
+#define JSON_H
+
+#include <stdint.h>
+
+void json_object(const char *name);
+void json_object_end(void);
+void json_list(const char *name);
+void json_list_end(void);
+void json_number(const char *name, uint64_t number);
+
+/* A string; null where the text is null. */
+void json_text(const char *name, const char *given);
+void json_null(const char *name);
+
+/* The object that every command prints begins with these fields, and ends with json_end. `error` may be null. */
+void json_begin(const char *command, int status, const char *error);
+void json_end(void);
+
+#endif
