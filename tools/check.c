@@ -126,7 +126,6 @@ static void json_one(const struct table *table)
     const char *file = counts.not_read != NULL ? counts.not_read : counts.refused;
     const struct verdict *verdict = counts.not_read != NULL ? counts.failure : counts.refused != NULL ? counts.refusal :
                                                                                                       &table->verdict;
-    uint64_t i;
 
     json_object(NULL);
     json_text("directory", table->directory);
@@ -143,11 +142,7 @@ static void json_one(const struct table *table)
     json_null("bucket_size");
     json_verdict(&table->verdict);
     json_object_end();
-    for (i = 0; i < table->manager_count; i++) {
-        json_object(NULL);
-        json_manager(&table->managers[i]);
-        json_object_end();
-    }
+    json_managers(table);
     json_list_end();
     json_object_end();
 }

@@ -83,11 +83,7 @@ static void json_table(const struct table *table)
         json_column(i, &table->columns[i]);
     json_list_end();
     json_list("managers");
-    for (i = 0; i < table->manager_count; i++) {
-        json_object(NULL);
-        json_manager(&table->managers[i]);
-        json_object_end();
-    }
+    json_managers(table);
     json_list_end();
     json_end();
 }

@@ -65,8 +65,9 @@ void json_verdict(const struct verdict *verdict)
     json_text("reason", verdict_reason(verdict));
 }
 
-void json_manager(const struct manager *manager)
+static void json_manager(const struct manager *manager)
 {
+    json_object(NULL);
     json_number("manager", manager->sequence);
     json_text("name", manager->name);
     json_text("kind", kind_name(manager->kind));
@@ -76,6 +77,15 @@ void json_manager(const struct manager *manager)
     else
         json_null("bucket_size");
     json_verdict(&manager->verdict);
+    json_object_end();
+}
+
+void json_managers(const struct table *table)
+{
+    uint64_t i;
+
+    for (i = 0; i < table->manager_count; i++)
+        json_manager(&table->managers[i]);
 }
 
 static struct verdict of_number(uint64_t number)

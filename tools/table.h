@@ -56,8 +56,8 @@ void print_verdict(const struct verdict *verdict);
 /* The fields "verdict", "refusal" and "reason". */
 void json_verdict(const struct verdict *verdict);
 
-/* The fields of a data manager and of the verdict on its file. */
-void json_manager(const struct manager *manager);
+/* An object for each data manager: its fields, and those of the verdict on its file. */
+void json_managers(const struct table *table);
 
 /* The first reason why a file could not be read, or null. */
 const char *table_error(const struct table *table);

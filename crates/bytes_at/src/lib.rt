@@ -4,7 +4,7 @@ pub mod text_at;
 ghost use mathlib.Core.Path.{_≡_};
 ghost use Prim.Native.Nat.{_≤_, _<_, _+_, _-_, min};
 ghost use lib.ListN.{getD, length, take, drop, replicate};
-ghost use mathlib.Core.Bool.{true, false, _&&_, _&&_};
+ghost use mathlib.Core.Bool.{true, false, _&&_};
 ghost use lib.Dec.{leb};
 ghost use lib.Seq.{paste};
 ghost use Rattle.bytes_at.specs.Number.{bytesOf, uintOf};

@@ -181,15 +181,21 @@ typedef enum hv_number by_position(const uint8_t *, size_t, const uint8_t *, siz
                                    uint64_t *, size_t);
 by_position REAL(hv_place), SHIM(hv_place), REAL(hv_view), SHIM(hv_view);
 
+static enum hv_number positioned(struct lent *lent, by_position *real, const uint8_t *table, size_t table_len,
+                                 const uint8_t *file, size_t file_len, uint64_t row, uint64_t position)
+{
+    row = passed(lent->function, 0, row);
+    position = passed(lent->function, 1, position);
+    return spoilt(lent, real(table, table_len, file, file_len, row, position, lent->room, lent->room_len, out_of(lent),
+                             lent->out_len));
+}
+
 enum hv_number SHIM(hv_place)(const uint8_t *table, size_t table_len, const uint8_t *file, size_t file_len, uint64_t row,
                               uint64_t position, uint8_t *room, size_t room_len, uint64_t *out, size_t out_len)
 {
     struct lent lent = {"hv_place", HV_PLACE_LEN, room, room_len, out, out_len, {0}};
 
-    row = passed(lent.function, 0, row);
-    position = passed(lent.function, 1, position);
-    return spoilt(&lent, REAL(hv_place)(table, table_len, file, file_len, row, position, room, room_len, out_of(&lent),
-                                        out_len));
+    return positioned(&lent, REAL(hv_place), table, table_len, file, file_len, row, position);
 }
 
 enum hv_number SHIM(hv_view)(const uint8_t *table, size_t table_len, const uint8_t *file, size_t file_len, uint64_t row,
@@ -197,10 +203,7 @@ enum hv_number SHIM(hv_view)(const uint8_t *table, size_t table_len, const uint8
 {
     struct lent lent = {"hv_view", HV_VIEW_LEN, room, room_len, out, out_len, {0}};
 
-    row = passed(lent.function, 0, row);
-    position = passed(lent.function, 1, position);
-    return spoilt(&lent, REAL(hv_view)(table, table_len, file, file_len, row, position, room, room_len, out_of(&lent),
-                                       out_len));
+    return positioned(&lent, REAL(hv_view), table, table_len, file, file_len, row, position);
 }
 
 typedef enum hv_number by_plan(const uint8_t *, size_t, const uint8_t *, size_t, uint64_t, const uint64_t *, size_t,

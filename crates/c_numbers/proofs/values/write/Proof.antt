@@ -1,10 +1,9 @@
 -- `c_numbers::values::write` meets its contract. The loop's invariant: i of the n values are written, and n are as many as `out` holds.
-use Prim.Native.Nat.{_-_, _≤_, _<_}
-use mathlib.Core.Path.{_≡_, _∙_}
+use Prim.Native.Nat.{_-_}
+use mathlib.Core.Path.{_∙_}
 use native.Mathlib.Nat.{zero-add}
 use native.Mathlib.Omega.{arith}
 use borrow.Author.Needs.{needs}
-use lib.ListN.{length}
 use Rattle.bytes_at.proofs.Copied.{Copied, copied-start, copied-again, copied-end}
 use Rattle.c_numbers.proofs.Written.{whole}
 use Rattle.c_numbers.proofs.values.write.Statement.{statement}
