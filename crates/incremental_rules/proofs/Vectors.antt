@@ -54,7 +54,7 @@ abbrev column : ℕ → ℕ → Column
 column number bits = record {
   start = 0;
   len = 0;
-  datatype = record { number = number; bits = 0 };
+  datatype = record { number = number };
   array = false;
   options = 0;
   elements = 1;

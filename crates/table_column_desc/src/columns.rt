@@ -86,7 +86,7 @@ fn read_column(s: &[u8], head: ColumnHead, c: Cursor) -> ColumnRead
 pub fn no_column() -> Column
     ensures { λ r. ⌜ r ≡ noColumn ⌝ }
 {
-    let datatype = DataType { number: 0, bits: 0 };
+    let datatype = DataType { number: 0 };
     Column {
         start: 0,
         len: 0,

@@ -84,17 +84,17 @@ cell-some : (t : DataType) (array : Bool) (options elements maximum : ℕ) → F
 unfolding cellBits
 cell-some t true options elements maximum h = pick (isDirect options) h
   where
-    pick : (b : Bool) → (b ≡ true → 0 < elements) → 0 < cond b (cond (eqb (elementBits t) 0) 96 (elements * elementBits t)) 64
-    pick true h = elements-some (elementBits t) elements (h refl) (lit< tt)
+    pick : (b : Bool) → (b ≡ true → 0 < elements) → 0 < cond b (cond (eqb (elementBits (t .number)) 0) 96 (elements * elementBits (t .number))) 64
+    pick true h = elements-some (elementBits (t .number)) elements (h refl) (lit< tt)
     pick false h = lit< tt
-cell-some t false options elements maximum h = elements-some (elementBits t) elements (h refl) (text-some maximum)
+cell-some t false options elements maximum h = elements-some (elementBits (t .number)) elements (h refl) (text-some maximum)
 
 -- ---- a column, and every column of a table
 rest-some : (s : List ℕ) (head : ColumnHead) (c : Cursor) → Clean (columnRestAt s head c .next) → 0 < columnRestAt s head c .column .bits
 unfolding columnRestAt _>>=_
 rest-some s head c e =
     cell-some (head .datatype) (head .array) _ _ _
-    (layout-some s _ (head .array) (head .datatype .number) (clean-before (tail-keeps s _ (head .array) (elementBits (head .datatype))) e))
+    (layout-some s _ (head .array) (head .datatype .number) (clean-before (tail-keeps s _ (head .array) (elementBits (head .datatype .number))) e))
 
 -- one more, at n
 set-some : (l : List Column) (n i : ℕ) (x : Column) → n < length l → 0 < x .bits → (i < n → 0 < getD l i noColumn .bits) → i < suc n

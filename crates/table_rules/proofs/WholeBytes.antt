@@ -3,23 +3,22 @@
 use mathlib.Core.Path.{_≡_, refl, sym, ap, _∙_}
 use mathlib.Core.List.{List, [], _∷_}
 use mathlib.Core.Bool.{Bool, true, false, cond}
-use Prim.Native.Nat.{ℕ, zero, suc, _*_, _/_}
-use native.Mathlib.Decide.{decLt}
+use Prim.Native.Nat.{ℕ, zero, suc, _*_, _/_, _<_}
 use native.Mathlib.Omega.{arith}
 use native.Mathlib.Nat.{mul-assoc, mul-comm}
-use lib.ListN.{getD, set, replicate, List·getD-eq-default}
+use lib.ListN.{getD, set, replicate}
 use lib.Dec.{eqb}
-use borrow.Author.Tests.{ne-eqb}
-use Rattle.bytes_at.specs.Lists.{firstFrom}
 use Rattle.bytes_at.specs.Steps.{after, _>>=_}
 use Rattle.aipsio_rules.specs.declared.Cursor.{Cursor}
 use Rattle.table_rules.specs.declared.data_type.DataType.{DataType}
-use Rattle.table_rules.specs.DataType.{types, noRow, nthRow, typePlace, elementBits}
+use Rattle.table_rules.specs.DataType.{nthRow, elementBits}
 use Rattle.table_rules.specs.ColumnDesc.{isDirect, cellBits, columnRestAt, noColumn, columnInto, noColumns, columnsAt}
 use Rattle.table_rules.specs.declared.Column.{Column}
 use Rattle.table_rules.specs.declared.Columns.{Columns}
 use Rattle.table_rules.specs.declared.ColumnHead.{ColumnHead}
-use Rattle.table_rules.proofs.data_type.Cases.{each}
+use Rattle.table_rules.proofs.data_type.Cases.{each, one-or-none}
+use Rattle.table_rules.proofs.data_type.Table.{no-place}
+use Rattle.table_rules.proofs.data_type.Sizes.{sizes-agree}
 
 -- a number of bits that is one of whole bytes
 abbrev pub Even8 : ℕ → Type 0
@@ -32,32 +31,17 @@ eight k n e = omega arith
 pub times-even : (k n : ℕ) → Even8 n → Even8 (k * n)
 times-even k n e = eight (k * (n / 8)) (k * n) (ap (λ (x : ℕ). k * x) e ∙ sym (mul-assoc k 8 (n / 8)) ∙ ap (λ (x : ℕ). x * (n / 8)) (mul-comm k 8) ∙ mul-assoc 8 k (n / 8))
 
--- ---- the types: every one but the first of the table, Bool, whose number is 0
-row-whole : (i : ℕ) → Even8 (nthRow (suc i) .bits)
-row-whole i = elim (decLt i 11) [
-  | yes h ↦ each (λ (j : ℕ). Even8 (nthRow (suc j) .bits)) 11 (search depth 14) i h
-  | no h ↦ rw (List·getD-eq-default types noRow {n = suc i} (omega arith))
-]
-
-either-row : (b : Bool) (i j : ℕ) → Even8 (nthRow i .bits) → Even8 (nthRow j .bits) → Even8 (nthRow (cond b i j) .bits)
-either-row true i j h k = h
-either-row false i j h k = k
-
--- a search past the first place
-past-first : (test : ℕ → Bool) (k i : ℕ) → Even8 (nthRow (firstFrom test k (suc i)) .bits)
-unfolding firstFrom
-past-first test zero i = row-whole i
-past-first test (suc k) i = either-row (test (suc i)) (suc i) _ (row-whole i) (past-first test k (suc i))
-
-not-first : (n : ℕ) → (n ≡ 0 → ⊥) → typePlace n ≡ firstFrom (λ (i : ℕ). eqb n (nthRow i .number)) 11 1
-unfolding typePlace firstFrom
-not-first n h = rw (ne-eqb n 0 h)
-
-type-whole : (t : DataType) → (t .number ≡ 0 → ⊥) → Even8 (elementBits t)
+-- ---- the bits of an element: of every type but the first of the table, Bool, whose number is 0; other numbers have none
+rows-whole : (i : ℕ) → i < 11 → Even8 (elementBits (nthRow (suc i) .number))
 unfolding elementBits
-type-whole t h =
-    let e = ap (λ (i : ℕ). nthRow i .bits) (not-first (t .number) h) in
-    rw e (past-first (λ (i : ℕ). eqb (t .number) (nthRow i .number)) 11 0)
+rows-whole = each (λ (i : ℕ). Even8 (elementBits (nthRow (suc i) .number))) 11 (search depth 14)
+
+size-whole : (n : ℕ) → (n ≡ 0 → ⊥) → Even8 (elementBits n)
+size-whole n h = one-or-none n (λ (i : ℕ). nthRow i .number) 12 pick (λ none. rw (sizes-agree n, no-place n none) refl)
+  where
+    pick : (i : ℕ) → i < 12 → n ≡ nthRow i .number → Even8 (elementBits n)
+    pick zero k e = absurd (h e)
+    pick (suc i) k e = rw e (rows-whole i (omega arith))
 
 -- ---- the bits of a cell
 one-of : (b : Bool) (x y : ℕ) → Even8 x → Even8 y → Even8 (cond b x y)
@@ -68,10 +52,10 @@ cell-whole : (t : DataType) (array : Bool) (options elements maximum : ℕ) → 
     → Even8 (cellBits t array options elements maximum)
 unfolding cellBits
 cell-whole t array options elements maximum n =
-    let whole = times-even elements (elementBits t) (type-whole t n) in
+    let whole = times-even elements (elementBits (t .number)) (size-whole (t .number) n) in
     one-of array _ _
-    (one-of (isDirect options) _ 64 (one-of (eqb (elementBits t) 0) 96 _ refl whole) refl)
-    (one-of (eqb (elementBits t) 0) _ _ (one-of (eqb maximum 0) 96 _ refl (eight maximum (maximum * 8) (omega arith))) whole)
+    (one-of (isDirect options) _ 64 (one-of (eqb (elementBits (t .number)) 0) 96 _ refl whole) refl)
+    (one-of (eqb (elementBits (t .number)) 0) _ _ (one-of (eqb maximum 0) 96 _ refl (eight maximum (maximum * 8) (omega arith))) whole)
 
 -- ---- a column, and every column of a table
 pub record Whole (c : Column) : Type 0 where

@@ -138,19 +138,19 @@ tailAt s c array bits = do
   settled (m .value) d
 
 -- "Cell bits: scalars and direct arrays, elements x size x 8, a Bool element being one bit; String scalar, maximum x 8 if
--- above 0, else 96; direct String array 96; other arrays 64." The size is the table's, 0 for a String.
+-- above 0, else 96; direct String array 96; other arrays 64." A String alone has 0 bits by its type.
 unfoldable pub cellBits : DataType → Bool → ℕ → ℕ → ℕ → ℕ
 cellBits t array options elements maximum =
     cond array
-    (cond (isDirect options) (cond (eqb (elementBits t) 0) 96 (elements * elementBits t)) 64)
-    (cond (eqb (elementBits t) 0) (cond (eqb maximum 0) 96 (maximum * 8)) (elements * elementBits t))
+    (cond (isDirect options) (cond (eqb (elementBits (t .number)) 0) 96 (elements * elementBits (t .number))) 64)
+    (cond (eqb (elementBits (t .number)) 0) (cond (eqb maximum 0) 96 (maximum * 8)) (elements * elementBits (t .number)))
 
 -- the rest of a ColumnDesc, past its name
 unfoldable pub columnRestAt : List ℕ → ColumnHead → Cursor → ColumnRead
 columnRestAt s head c = do
   notes ← notesAt s c
   layout ← layoutAt s notes (head .array) (head .datatype .number)
-  maximum ← tailAt s (layout .next) (head .array) (elementBits (head .datatype))
+  maximum ← tailAt s (layout .next) (head .array) (elementBits (head .datatype .number))
   bits ← cellBits (head .datatype) (head .array) (layout .options) (layout .elements) (maximum .value)
   record {
     column = record {
@@ -171,7 +171,7 @@ unfoldable pub noColumn : Column
 noColumn = record {
   start = 0;
   len = 0;
-  datatype = record { number = 0; bits = 0 };
+  datatype = record { number = 0 };
   array = false;
   options = 0;
   elements = 0;

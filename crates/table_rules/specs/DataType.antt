@@ -1,5 +1,6 @@
 -- RULES.md 4.3: the data types.
 use Prim.Native.Nat.{ℕ, _*_}
+use mathlib.Core.Path.{_≡_}
 use mathlib.Core.List.{List, [], _∷_, _++_}
 use lib.ListN.{getD, take}
 use lib.Dec.{eqb, ltb}
@@ -22,8 +23,8 @@ row name number bits = record { name = name; number = number; bits = bits }
 -- "Each data type carries its own size and number": the table of RULES.md 4.3, a byte being 8 bits. A String has no size of its own.
 abbrev pub types : List TypeRow
 types =
-    -- | T | number | bytes |
-    row (bytes "Bool") 0 1  -- | Bool | 0 | bit |
+    -- | T | Number | Bytes of an element |
+    row (bytes "Bool") 0 1  -- | Bool | 0 | a bit |
     ∷ row (bytes "uChar") 2 (1 * 8)  -- | uChar | 2 | 1 |
     ∷ row (bytes "Short") 3 (2 * 8)  -- | Short | 3 | 2 |
     ∷ row (bytes "uShort") 4 (2 * 8)  -- | uShort | 4 | 2 |
@@ -33,7 +34,7 @@ types =
     ∷ row (bytes "double") 8 (8 * 8)  -- | double | 8 | 8 |
     ∷ row (bytes "Complex") 9 (8 * 8)  -- | Complex | 9 | 8 |
     ∷ row (bytes "DComplex") 10 (16 * 8)  -- | DComplex | 10 | 16 |
-    ∷ row (bytes "String") 11 0  -- | String | 11 | below |
+    ∷ row (bytes "String") 11 0  -- | String | 11 | none of its own: 4.5 |
     ∷ row (bytes "Int64") 29 (8 * 8)  -- | Int64 | 29 | 8 |
     ∷ []
 
@@ -45,7 +46,7 @@ abbrev pub nthRow : ℕ → TypeRow
 nthRow i = getD types i noRow
 
 abbrev pub nthType : ℕ → DataType
-nthType i = record { number = nthRow i .number; bits = nthRow i .bits }
+nthType i = record { number = nthRow i .number }
 
 -- the place of a number in the table, 12 where it has none
 unfoldable pub typePlace : ℕ → ℕ
@@ -55,9 +56,26 @@ typePlace n = firstBelow (λ (i : ℕ). eqb n (nthRow i .number)) 12
 unfoldable pub typeName : DataType → List ℕ
 typeName t = nthRow (typePlace (t .number)) .name
 
--- the bits of a type's element; 0 for a String and for what is none of the types
-unfoldable pub elementBits : DataType → ℕ
-elementBits t = nthRow (typePlace (t .number)) .bits
+-- "The bits of an element, from the number of its type", to be held beside Note 260's table of 3.4.2: its rows (| Data Type | Size |)
+-- in their order, then everything else. Two of the note's sizes are corrected, behind a colon.
+unfoldable pub elementBits : ℕ → ℕ
+elementBits n =
+    cond (eqb n 0) 1  -- | Bool | 1 byte |: a bit
+    (cond (eqb n 2) (1 * 8)  -- | uChar | 1 byte |
+    (cond (eqb n 3) (2 * 8)  -- | Short | 1 byte |: two bytes
+    (cond (eqb n 4) (2 * 8)  -- | uShort | 2 byte |
+    (cond (eqb n 5) (4 * 8)  -- | Int | 4 byte |
+    (cond (eqb n 6) (4 * 8)  -- | uInt | 4 byte |
+    (cond (eqb n 29) (8 * 8)  -- | Int64 | 8 byte |
+    (cond (eqb n 7) (4 * 8)  -- | Float | 4 byte |
+    (cond (eqb n 8) (8 * 8)  -- | Double | 8 bytes |
+    (cond (eqb n 9) (8 * 8)  -- | Complex | 8 bytes |
+    (cond (eqb n 10) (16 * 8)  -- | DComplex | 16 bytes |
+    0))))))))))
+
+-- For every number, the two tables agree: a type has the bits of its row in `types`, a String and a number without a row 0.
+abbrev pub SizesAgree : Type 0
+SizesAgree = (n : ℕ) → elementBits n ≡ nthRow (typePlace n) .bits
 
 -- "T followed by spaces up to eight characters"
 abbrev pub filled : List ℕ → List ℕ

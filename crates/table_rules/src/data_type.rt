@@ -6,10 +6,10 @@ ghost use lib.ListN.{length};
 ghost use mathlib.Core.Bool.{true};
 ghost use Rattle.table_rules.specs.DataType.{nthRow, typeName, elementBits, filled, withNumber, isName, withName};
 
-// A data type: its number in Casacore's DataType.h, and the bits of an element, 0 for a String, whose size is its cell's.
+// A data type: its number in Casacore's DataType.h. The bits of an element go by the number alone (`bits_of`). Two bytes, so that a
+// `Column` has no gap, and a list of them is cleared as one block.
 pub struct DataType {
-    pub number: u8,
-    pub bits: u8,
+    pub number: u16,
 }
 
 // The type that a number or a name stands for, or that it stands for none.
@@ -19,59 +19,29 @@ pub enum Known {
 }
 
 impl DataType {
-    pub const BOOL: DataType = DataType { number: 0, bits: 1 };
+    pub const BOOL: DataType = DataType { number: 0 };
 
-    pub const UCHAR: DataType = DataType { number: 2, bits: 8 };
+    pub const UCHAR: DataType = DataType { number: 2 };
 
-    pub const SHORT: DataType = DataType {
-        number: 3,
-        bits: 16,
-    };
+    pub const SHORT: DataType = DataType { number: 3 };
 
-    pub const USHORT: DataType = DataType {
-        number: 4,
-        bits: 16,
-    };
+    pub const USHORT: DataType = DataType { number: 4 };
 
-    pub const INT: DataType = DataType {
-        number: 5,
-        bits: 32,
-    };
+    pub const INT: DataType = DataType { number: 5 };
 
-    pub const UINT: DataType = DataType {
-        number: 6,
-        bits: 32,
-    };
+    pub const UINT: DataType = DataType { number: 6 };
 
-    pub const FLOAT: DataType = DataType {
-        number: 7,
-        bits: 32,
-    };
+    pub const FLOAT: DataType = DataType { number: 7 };
 
-    pub const DOUBLE: DataType = DataType {
-        number: 8,
-        bits: 64,
-    };
+    pub const DOUBLE: DataType = DataType { number: 8 };
 
-    pub const COMPLEX: DataType = DataType {
-        number: 9,
-        bits: 64,
-    };
+    pub const COMPLEX: DataType = DataType { number: 9 };
 
-    pub const DCOMPLEX: DataType = DataType {
-        number: 10,
-        bits: 128,
-    };
+    pub const DCOMPLEX: DataType = DataType { number: 10 };
 
-    pub const STRING: DataType = DataType {
-        number: 11,
-        bits: 0,
-    };
+    pub const STRING: DataType = DataType { number: 11 };
 
-    pub const INT64: DataType = DataType {
-        number: 29,
-        bits: 64,
-    };
+    pub const INT64: DataType = DataType { number: 29 };
 
     // The names, filled with spaces to eight characters.
     const BOOL_NAME: [u8; 8] = *b"Bool    ";
@@ -165,15 +135,34 @@ impl DataType {
         }
     }
 
-    // The bits of an element, by the type's number; 0 for a String and for what is none of the types.
-    pub fn element_bits(self) -> usize
-        ensures { λ r. ⌜ (r ≡ elementBits self) × (r < 256) ⌝ }
+    // The bits of an element, from its type's number: the rows of Note 260's table of 3.4.2 (| Data Type | Size |) in their
+    // order, corrected behind a colon, then everything else, a String too. Every other function that needs a size has it from here.
+    pub fn bits_of(number: usize) -> usize
+        ensures { λ r. ⌜ r ≡ elementBits number ⌝ }
+        ensures bounded { λ r. ⌜ r < 256 ⌝ }
     {
-        let k = DataType::from_number(self.number as usize);
-        match k {
-            Known::Of(t) => t.bits as usize,
-            Known::Nothing => 0,
+        match number {
+            0 => 1, // | Bool | 1 byte |: a bit
+            2 => 8, // | uChar | 1 byte |
+            3 => 16, // | Short | 1 byte |: two bytes
+            4 => 16, // | uShort | 2 byte |
+            5 => 32, // | Int | 4 byte |
+            6 => 32, // | uInt | 4 byte |
+            29 => 64, // | Int64 | 8 byte |
+            7 => 32, // | Float | 4 byte |
+            8 => 64, // | Double | 8 bytes |
+            9 => 64, // | Complex | 8 bytes |
+            10 => 128, // | DComplex | 16 bytes |
+            _ => 0,
         }
+    }
+
+    // The bits of an element of this type.
+    pub fn element_bits(self) -> usize
+        ensures { λ r. ⌜ r ≡ elementBits (self .number) ⌝ }
+        ensures bounded { λ r. ⌜ r < 256 ⌝ }
+    {
+        DataType::bits_of(self.number as usize)
     }
 
     // Whether the bytes are the type's name, bare or filled.

@@ -2,6 +2,7 @@
 --     Each, each     a fact at each number below n: what a `_` arm knows (`.rest`) has this form; twelve that compute are `search depth 14`
 --     passed         a search that no number below m ends
 --     none-first     a number that is none of n keys is not found among them
+--     one-or-none    a number is one of n keys or none of them
 -- Assumes nothing.
 use mathlib.Core.Path.{_≡_, sym}
 use mathlib.Core.Bool.{Bool, false}
@@ -31,3 +32,10 @@ passed test n (suc m) h f =
 pub none-first : (x : ℕ) (key : ℕ → ℕ) (n : ℕ) → Each (λ (i : ℕ). x ≡ key i → ⊥) n → firstBelow (λ (i : ℕ). eqb x (key i)) n ≡ n
 none-first x key n h =
     sym (searched-out (passed (λ (i : ℕ). eqb x (key i)) n n (le-refl n) (λ j k. ne-eqb x (key j) (each (λ (i : ℕ). x ≡ key i → ⊥) n h j k))) (le-refl n))
+
+pub one-or-none : {P : Type 0} (x : ℕ) (key : ℕ → ℕ) (n : ℕ) → ((i : ℕ) → i < n → x ≡ key i → P) → (Each (λ (i : ℕ). x ≡ key i → ⊥) n → P) → P
+one-or-none x key zero f g = g tt
+one-or-none x key (suc n) f g = elim (ℕ-discrete x (key n)) [
+  | yes e ↦ f n (omega arith) e
+  | no m ↦ one-or-none x key n (λ i k. f i (omega arith)) (λ h. g (h, m))
+]

@@ -1,20 +1,18 @@
 -- The table of data types: a number that it has not, as the `_` arm of a `match` knows it; and what the type of a number is.
 -- Assumes nothing.
-use mathlib.Core.Path.{_≡_, refl, sym, ap, _∙_}
+use mathlib.Core.Path.{_≡_, refl}
 use mathlib.Core.Bool.{Bool, true, false, cond}
 use mathlib.Core.List.{[]}
 use Prim.Native.Nat.{ℕ, _≤_, _<_}
 use lib.Dec.{ltb}
-use lib.ListN.{List·getD-eq-default}
 use borrow.Author.Tests.{ltb-true, ltb-false}
 use Rattle.table_rules.specs.declared.data_type.DataType.{DataType}
-use Rattle.table_rules.specs.declared.data_type.Known.{Known}
 use Rattle.table_rules.specs.declared.data_type.Known.the-variants.{Of, Nothing}
-use Rattle.table_rules.specs.DataType.{TypeRow, types, noRow, nthRow, nthType, typePlace, elementBits, withNumber}
+use Rattle.table_rules.specs.DataType.{nthRow, nthType, typePlace, withNumber}
 use Rattle.table_rules.proofs.data_type.Cases.{Each, none-first}
 
 module _ (n : ℕ) (h : Each (λ (i : ℕ). n ≡ nthRow i .number → ⊥) 12) where
-  no-place : typePlace n ≡ 12
+  pub no-place : typePlace n ≡ 12
   unfolding typePlace
   no-place = none-first n (λ (i : ℕ). nthRow i .number) 12 h
 
@@ -41,15 +39,3 @@ number-of n e = let h = is-of (ltb (typePlace n) 12) e in (ltb-true (typePlace n
 pub number-none : (n : ℕ) → Nothing ≡ withNumber n → 12 ≤ typePlace n
 unfolding withNumber
 number-none n e = ltb-false (typePlace n) 12 (is-none (ltb (typePlace n) 12) (nthType (typePlace n)) e)
-
--- the bits of an element, from the type of the number
-module _ (t : DataType) {k : Known} (e : k ≡ withNumber (t .number)) where
-  pub bits-of : {u : DataType} → k ≡ Of u → u .bits ≡ elementBits t
-  unfolding elementBits
-  bits-of q = ap (λ (x : DataType). x .bits) (number-of (t .number) (sym q ∙ e) .1)
-
-  pub bits-none : k ≡ Nothing → 0 ≡ elementBits t
-  unfolding elementBits
-  bits-none q =
-      let past = number-none (t .number) (sym q ∙ e) in
-      ap (λ (r : TypeRow). r .bits) (sym (List·getD-eq-default types noRow {n = typePlace (t .number)} past))
