@@ -8,9 +8,9 @@
  * its elements; a run of 0 elements may have any pointer, a null one too, and no other is null. `room` and `out` are written
  * and share no byte with each other or with anything else that is lent.
  *
- * Answers. A function gives 0 and writes the numbers of its answer into `out`, or it gives the number of a refusal (enum
- * hv_number) and writes as many zeros. If `out` is shorter than the answer, it gets the first numbers of it, as many as it
- * holds; if it is longer, what stands behind the answer is left alone. The lengths are the constants HV_.._LEN.
+ * Answers. A function that returns enum hv_number gives 0 and writes the numbers of its answer into `out`, or it gives the
+ * number of a refusal and writes as many zeros. If `out` is shorter than the answer, it gets the first numbers of it, as many
+ * as it holds; if it is longer, what stands behind the answer is left alone. The lengths are the constants HV_.._LEN.
  *
  * Later versions. A later version of this library may write a longer answer, may know more refusals and may have more
  * functions; all numbers that are here keep their place and their meaning. So a program that was compiled with this header
@@ -38,7 +38,7 @@ extern "C" {
 
 /* The version: here, and nowhere else. */
 #define HV_VERSION_MAJOR 1
-#define HV_VERSION_MINOR 0
+#define HV_VERSION_MINOR 1
 #define HV_VERSION_PATCH 0
 #define HV_IN_QUOTES(major, minor, patch) #major "." #minor "." #patch
 #define HV_QUOTED(major, minor, patch) HV_IN_QUOTES(major, minor, patch)
@@ -233,6 +233,13 @@ enum hv_number hv_view(const uint8_t *table, size_t table_len, const uint8_t *fi
 enum hv_number hv_view_planned(const uint8_t *table, size_t table_len, const uint8_t *file, size_t file_len, uint64_t row,
                                const uint64_t *plan, size_t plan_len, uint8_t *room, size_t room_len, uint64_t *out,
                                size_t out_len);
+
+/*
+ * The bits of an element, from the number of a data type (enum hv_data_type): 1 for a Bool, 8 times its bytes for every other
+ * type but HV_TYPE_STRING, which has 0, since its size is its column's. 0 also for every number that is none of them: the types
+ * of arrays, and negative numbers, which become large ones here. It asks of no file and is never refused.
+ */
+uint64_t hv_element_bits(uint64_t number);
 
 /*
  * When a refusal is given, in words. "accepted" for 0, and words for HV_SHORT and for every other number too: never null. The

@@ -1,7 +1,7 @@
 /*
- * Asks every question of include/helvidrane.h on the samples `small` and `arrays`: accepted, refused with each number, with
- * `out` shorter and longer than the answer, with plans that are too short, and with null pointers to runs of 0 elements. The
- * answers are those of RULES.md and of the independent model. It is C and C++.
+ * Asks every question of include/helvidrane.h: of files on the samples `small` and `arrays`, accepted, refused with each number,
+ * with `out` shorter and longer than the answer, with plans that are too short, and with null pointers to runs of 0 elements;
+ * and of type numbers. The answers are those of RULES.md and of the independent model. It is C and C++.
  *
  * questions SAMPLES: exits with 1 at the first difference.
  */
@@ -480,6 +480,27 @@ static void ask_of_incremental(const char *samples)
     }
 }
 
+/* The bits of elements: each type's, and none of a String and of numbers that are no type's or only end as one does. */
+static void ask_for_bits(void)
+{
+    static const uint64_t types[][2] = {
+        {HV_TYPE_BOOL, 1},   {HV_TYPE_UCHAR, 8},  {HV_TYPE_SHORT, 16},  {HV_TYPE_USHORT, 16},
+        {HV_TYPE_INT, 32},   {HV_TYPE_UINT, 32},  {HV_TYPE_INT64, 64},  {HV_TYPE_FLOAT, 32},
+        {HV_TYPE_DOUBLE, 64}, {HV_TYPE_COMPLEX, 64}, {HV_TYPE_DCOMPLEX, 128},
+    };
+    static const uint64_t none[] = {HV_TYPE_STRING, 1, 12, 13, 24, 28, 30, 31, 255, 65535, (uint64_t)-1, (uint64_t)-3};
+    size_t i;
+    int shift;
+
+    for (i = 0; i < sizeof types / sizeof *types; i++) {
+        HOLD(hv_element_bits(types[i][0]) == types[i][1], __LINE__);
+        for (shift = 8; shift < 64; shift++)
+            HOLD(hv_element_bits(types[i][0] + (UINT64_C(1) << shift)) == 0, __LINE__);
+    }
+    for (i = 0; i < sizeof none / sizeof *none; i++)
+        HOLD(hv_element_bits(none[i]) == 0, __LINE__);
+}
+
 #define WORDS(name, number, words) {name, number, words},
 
 /* Every number has words; those of the refusals are all different, and other numbers have none of them. */
@@ -523,6 +544,7 @@ int main(int argc, char **argv)
         return 2;
     }
     ask_for_words();
+    ask_for_bits();
     for (is_null = 0; is_null < 2; is_null++) {
         load_small(argv[1]);
         ask_of_table();

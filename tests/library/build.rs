@@ -3,7 +3,7 @@
 use std::path::Path;
 use std::process::Command;
 
-const FUNCTIONS: [&str; 10] = [
+const FUNCTIONS: [&str; 11] = [
     "hv_description",
     "hv_column",
     "hv_manager",
@@ -14,6 +14,7 @@ const FUNCTIONS: [&str; 10] = [
     "hv_place_planned",
     "hv_view",
     "hv_view_planned",
+    "hv_element_bits",
 ];
 
 fn main() {

@@ -45,6 +45,7 @@ expect() {
 
 expect 0 "no difference" --min 12000 --each 1..8 tables 1 12000 , large 1 20 , bad -- "$model"
 expect 0 "no difference" --min 3000 prefixes -- "$model"
+expect 0 "no difference" --min 108000 types , types 1 1000 -- "$model"
 expect 0 "no difference" --min 10000 --each 1..14 standard 1 10000 -- "$model"
 expect 0 "no difference" --min 10000 --each 1..12 incremental 1 10000 -- "$model"
 expect 0 "no difference" --min 5000 --each 1..14 small-file -- "$model"
@@ -54,6 +55,13 @@ expect 1 "difference at request" tables 1 3000 -- sh -c "'$model' | sed 's/^refu
 # The saved request is the one with the difference.
 [ "$("$model" <"$saved")" = "refused 7" ]
 expect 1 "difference at request" prefixes -- sh -c "'$model' | sed 's/^ok rows=7/ok rows=8/'"
+# A type with other bits, a refusal in place of 0, a sign that does not count, only the last two digits, a plus.
+expect 1 "difference at request" types -- sh -c "'$model' | sed 's/^ok 16$/ok 8/'"
+[ "$(cat "$saved")" = "elementbits 3" ]
+expect 1 "difference at request" types 1 100 -- sh -c "'$model' | sed 's/^ok 0$/refused 8/'"
+expect 1 "difference at request" types -- sh -c "sed 's/ -/ /' | '$model'"
+expect 1 "difference at request" types -- sh -c "sed 's/[0-9]*\\([0-9][0-9]\\)$/\\1/' | '$model'"
+expect 1 "difference at request" bad -- sh -c "sed 's/+//' | '$model'"
 # A room that is not cleared, or not filled.
 expect 1 "difference at request" standard 1 1000 -- sh -c "'$model' | sed 's/^refused 9 00/refused 9 a5/'"
 expect 1 "difference at request" small-file -- sh -c "'$model' | sed 's/^ok SSM be/ok SSM 00/'"
@@ -74,6 +82,11 @@ expect 2 "usage" tables -- "$model"
 # A campaign asks as many requests as it says, and tells how to ask the one with a difference again.
 ends_with 0 ../campaign 5 1234 -- "$model"
 says "^1234 requests compared, no difference"
+says "^elementbits *24 "
+for count in 1 2 5 49 50 99; do
+    ends_with 0 ../campaign 5 "$count" -- "$model"
+    says "^$count requests compared, no difference"
+done
 ends_with 1 ../campaign 5 1234 -- sh -c "'$model' | sed 's/^refused 11/refused 1/'"
 again=$(sed -n 's/^campaign: to ask it again: //p' "$scratch/output")
 ends_with 1 sh -c "cd ../.. && $again"
@@ -86,7 +99,7 @@ for arguments in "" 5 "5 0" "5 x" "-5 1" "5 100000001" "5 1 2" "5 1 --"; do
 done
 
 # The same seed gives the same requests, and the samples are up to date.
-for set in tables standard incremental; do
+for set in tables types standard incremental; do
     "$bin/requests" "$set" 1 200 >"$scratch/requests"
     "$bin/requests" "$set" 1 200 | cmp - "$scratch/requests"
 done

@@ -1,16 +1,18 @@
 // The questions for C: numbers and lent slices, each a pointer and a length. A function gives 0, or the number of the
 // refusal, and writes the numbers of its answer into `out`, as many as it holds; zeros where it is refused. So an answer can become
 // longer, and a program that lends the shorter `out` of an earlier version gets what it got then. A plan of fewer than nine numbers
-// gives 255, and nothing is written, the room included.
+// gives 255, and nothing is written, the room included. `hv_element_bits` alone can not be refused: it has no `out`, and gives the bits.
 ghost use mathlib.Core.Path.{_≡_};
 ghost use mathlib.Core.List.{[], _∷_};
 ghost use lib.ListN.{length};
+ghost use Rattle.table_rules.specs.DataType.{elementBits};
 ghost use Rattle.table_rules.specs.Table.{describedAs, columnNamed, positionRefusal, positionValue};
 ghost use Rattle.c_numbers.specs.Answers.{written, summaryOf, columnRefusal, columnNumbers, managerRefusal, managerNumbers, ifNine};
 ghost use Rattle.lookup_rules.specs.Questions.{answerOf, roomAfter};
 ghost use Rattle.c_numbers.specs.Numbers.{checkNumbers, planNumbers, placeNumbers, viewNumbers, planFrom};
 use lookup_rules::Asked;
 use lookup_rules::Question;
+use table_rules::data_type::DataType;
 
 // Row count, byte order (1: big endian), number of columns, number of managers: 4 numbers.
 #[no_mangle]
@@ -220,4 +222,13 @@ pub extern "C" fn hv_view_planned(
         room,
         out,
     )
+}
+
+// The bits of an element, from the number of a data type; 0 for a String's and for every number that is none of the types.
+#[no_mangle]
+pub extern "C" fn hv_element_bits(number: u64) -> u64
+    ensures { λ r. ⌜ r ≡ elementBits number ⌝ }
+{
+    let bits = DataType::bits_of(number as usize);
+    bits as u64
 }

@@ -255,3 +255,19 @@ enum hv_number SHIM(hv_view_planned)(const uint8_t *table, size_t table_len, con
 
     return planned(&lent, REAL(hv_view_planned), table, table_len, file, file_len, row, plan, plan_len);
 }
+
+uint64_t REAL(hv_element_bits)(uint64_t);
+uint64_t SHIM(hv_element_bits)(uint64_t);
+uint64_t SHIM(hv_element_bits)(uint64_t number)
+{
+    const char *function = "hv_element_bits";
+    uint64_t asked = is("low-byte", function) ? number & UINT8_MAX : passed(function, 0, number);
+    uint64_t bits = REAL(hv_element_bits)(asked);
+
+    /* One type has no bits, or one number twice its bits, or, if it has none, a byte. */
+    if (is("no-bits", function) && number == fault.number)
+        return 0;
+    if (is("other-bits", function) && number == fault.number)
+        return bits > 0 ? 2 * bits : 8;
+    return bits;
+}

@@ -31,3 +31,9 @@ pub fn hex(part: &[u8]) -> String {
 pub fn number(field: &str) -> Option<u64> {
     field.bytes().all(|c| c.is_ascii_digit()).then(|| field.parse().ok())?
 }
+
+/// Decimal digits behind a minus or none, 64 bits with the sign.
+pub fn signed(field: &str) -> Option<i64> {
+    let digits = field.strip_prefix('-').unwrap_or(field);
+    digits.bytes().all(|c| c.is_ascii_digit()).then(|| field.parse().ok())?
+}

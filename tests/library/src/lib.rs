@@ -1,4 +1,4 @@
-//! The proved library's C functions: every question as a value, and a safe function for each.
+//! The proved library's C functions: every question of the files as a value, and a safe function for each.
 
 pub mod fields;
 pub mod numbers;
@@ -87,6 +87,7 @@ extern "C" {
         out: *mut u64,
         out_len: usize,
     ) -> u32;
+    fn hv_element_bits(number: u64) -> u64;
 }
 
 /// Row count, byte order (1: big endian), number of columns, number of managers.
@@ -108,7 +109,7 @@ pub const CELL: usize = 2;
 /// A plan has too few numbers.
 pub const SHORT: u64 = 255;
 
-/// A call of one of the functions, but for the files, the room and `out`.
+/// A call of one of the functions that ask of files, but for the files, the room and `out`.
 #[derive(Clone, Copy, Debug, PartialEq, Eq)]
 pub enum Question<'a> {
     Description,
@@ -239,6 +240,13 @@ pub fn view(table: &[u8], file: &[u8], row: u64, position: u64, room: &mut [u8])
 /// The same for the plan's column.
 pub fn view_planned(table: &[u8], file: &[u8], row: u64, plan: &[u64; PLAN], room: &mut [u8]) -> Cell {
     ViewPlanned { row, plan }.answer(table, file, room)
+}
+
+/// The bits of an element, from the number of its type. It is so short that a call around it would count in `bench`.
+#[inline]
+pub fn element_bits(number: u64) -> u64 {
+    // It is lent nothing.
+    unsafe { hv_element_bits(number) }
 }
 
 #[cfg(test)]

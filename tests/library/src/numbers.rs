@@ -1,8 +1,8 @@
-//! Compares every number of every C function with the model's: the number that it gives, what it writes into `out` of every
-//! length, and the room. The first difference ends it.
+//! Compares every number of every C function with the model's: the number that it gives, and where it asks of files what it
+//! writes into `out` of every length, and the room. The first difference ends it.
 
 use crate::Question::{self, *};
-use crate::{PLAN, SHORT};
+use crate::{fields, PLAN, SHORT};
 use std::collections::BTreeMap;
 use std::fmt::{self, Write as _};
 use std::path::{Path, PathBuf};
@@ -10,6 +10,7 @@ use std::process::ExitCode;
 use writer::buckets::{BucketFile, Subject};
 use writer::questions::Asked;
 use writer::rng::Rng;
+use writer::sets::Set;
 use writer::{file_cases, large_files, sets, small_file};
 
 const OUT_FILL: u64 = 0xA5A5_A5A5_A5A5_A5A5;
@@ -128,7 +129,7 @@ fn expected(question: &Question<'_>, table: &[u8], file: &[u8], room: &mut [u8])
 #[derive(Default)]
 pub struct Comparison {
     calls: u64,
-    /// How often each function gave each number, by questions.
+    /// How often each function returned each number, by questions.
     given: BTreeMap<(&'static str, u64), u64>,
     /// The largest first number that each function gave.
     largest: BTreeMap<&'static str, u64>,
@@ -282,7 +283,26 @@ impl Comparison {
         Ok(())
     }
 
-    /// What must have been asked: each function accepted, and refused with each number that the header names for it.
+    /// The bits of an element, from a type's number.
+    fn element_bits(&mut self, number: u64) -> Compared {
+        let function = "hv_element_bits";
+        let (model, library) = (model::numbers::element_bits(number), crate::element_bits(number));
+        self.calls += 1;
+        *self.given.entry((function, model)).or_default() += 1;
+        if model == library {
+            return Ok(());
+        }
+        Err(Difference {
+            question: format!("number {number}"),
+            function,
+            lent: "nothing lent".to_string(),
+            model: model.to_string(),
+            library: library.to_string(),
+        })
+    }
+
+    /// What must have been asked: each function accepted, and refused with each number that the header names for it; of the
+    /// bits of an element, every size.
     fn missing(&self) -> Vec<String> {
         let of_file = [1, 2, 3, 4, 5, 6, 7, 8, 10, 11, 13];
         let (of_table, of_position) = (&of_file[..7], &of_file[..8]);
@@ -298,6 +318,7 @@ impl Comparison {
             ("hv_place_planned", with(&[9, 12, SHORT])),
             ("hv_view", with(&[9, 14])),
             ("hv_view_planned", with(&[9, 12, 14, SHORT])),
+            ("hv_element_bits", vec![1, 8, 16, 32, 64, 128]),
         ];
         let mut missing = Vec::new();
         for (function, numbers) in needed {
@@ -306,10 +327,10 @@ impl Comparison {
             let mut numbers = numbers;
             numbers.sort_unstable();
             if given != numbers {
-                missing.push(format!("{function} is to be refused with {numbers:?}, and was with {given:?}"));
+                missing.push(format!("{function} is to give {numbers:?}, and gave {given:?}"));
             }
             if !self.given.contains_key(&(function, 0)) {
-                missing.push(format!("{function} was not accepted"));
+                missing.push(format!("{function} did not give 0"));
             }
         }
         missing
@@ -385,6 +406,10 @@ fn room_needed(table: &[u8], file: &[u8]) -> usize {
 fn compare(comparison: &mut Comparison, seed: u64, count: u64) -> Result<(), String> {
     let rng = |number| Rng::new(seed, number);
     let at = |what: &str, number: u64, compared: Compared| compared.map_err(|d| format!("{what} {number}: {d}"));
+    for line in Set::Types.lines().chain(Set::SomeTypes { seed, count }.lines()) {
+        let number = line.strip_prefix("elementbits ").and_then(fields::signed).expect("a line about a type's number");
+        comparison.element_bits(number as u64).map_err(|difference| difference.to_string())?;
+    }
     for (number, (path, case)) in (0..).zip(samples()) {
         comparison.file(&case, &mut rng(number)).map_err(|d| format!("{}: {d}", path.display()))?;
     }

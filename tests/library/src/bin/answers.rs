@@ -1,6 +1,6 @@
 //! Answers request lines with the proved library. The listing is what the proved program prints; HELVIDRANE_LISTING names it.
 
-use library::fields::{bytes, hex, number};
+use library::fields::{bytes, hex, number, signed};
 use library::{CELL, PLAN};
 use std::fmt::Write as _;
 use std::io::{self, BufRead, BufWriter, Write};
@@ -134,6 +134,8 @@ fn answer(program: &str, line: &str) -> io::Result<Option<String>> {
         ["viewplan", table, file, row, plan, room] => {
             cell([table, file, row, room], plan_of(plan).as_ref(), library::view_planned)
         }
+        // A negative number is asked as C passes it, by its 64 bits.
+        ["elementbits", field] => signed(field).map(|number| format!("ok {}", library::element_bits(number as u64))),
         _ => None,
     })
 }

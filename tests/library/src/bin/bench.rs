@@ -66,6 +66,21 @@ fn column(what: &str, table: &[u8], calls: u32) {
     );
 }
 
+/// Each of the numbers from 0. The library's function stands behind a call, so the model's does too.
+fn element_bits(what: &str, numbers: u64, calls: u32) {
+    #[inline(never)]
+    fn of_model(number: u64) -> u64 {
+        model::numbers::element_bits(number)
+    }
+    assert!((0..numbers).all(|number| library::element_bits(number) == of_model(number)), "{what}");
+    compare(
+        what,
+        calls,
+        || (0..numbers).for_each(|number| _ = black_box(library::element_bits(black_box(number)))),
+        || (0..numbers).for_each(|number| _ = black_box(of_model(black_box(number)))),
+    );
+}
+
 /// A table, its one file, and what is asked of them.
 struct Files {
     what: &'static str,
@@ -178,6 +193,8 @@ impl Files {
 
 fn main() {
     let read = |path: &str| std::fs::read(path).expect(path);
+    title("Bits of an element for");
+    element_bits("32 numbers from 0", 32, 10_000);
     title("Description of");
     description("the small table", &read("samples/small/table.dat"), 2_000);
     description("the table with arrays", &read("samples/arrays/table.dat"), 500);

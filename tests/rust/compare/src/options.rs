@@ -115,6 +115,13 @@ mod tests {
     }
 
     #[test]
+    fn type_numbers() {
+        let options = parse("types, types 3 0 -- cat").unwrap();
+        assert_eq!(options.sets, [Set::Types, Set::SomeTypes { seed: 3, count: 0 }]);
+        assert!(usage().contains("\n  types [SEED COUNT] "));
+    }
+
+    #[test]
     fn faulty_lines() {
         for line in [
             "prefixes",
@@ -129,6 +136,7 @@ mod tests {
             "--each 1..15 prefixes -- cat",
             "--replay -- cat",
             "standard 1 -- cat",
+            "types 1 -- cat",
         ] {
             assert!(parse(line).is_err(), "{line}");
         }

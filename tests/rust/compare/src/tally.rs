@@ -68,20 +68,20 @@ fn refusal(question: &str, answer: &str) -> usize {
 impl fmt::Display for Tally {
     fn fmt(&self, out: &mut fmt::Formatter<'_>) -> fmt::Result {
         let last = (1..NUMBERS).rev().find(|number| self.occurrences(*number) > 0).unwrap_or(0);
-        write!(out, "{:10}{:>10}", "question", "accepted")?;
+        write!(out, "{:12}{:>10}", "question", "accepted")?;
         for number in 1..=last {
             write!(out, "{number:>8}")?;
         }
         writeln!(out)?;
         for (question, counts) in &self.questions {
-            write!(out, "{question:10}{:>10}", counts[0])?;
+            write!(out, "{question:12}{:>10}", counts[0])?;
             for count in &counts[1..=last] {
                 write!(out, "{count:>8}")?;
             }
             writeln!(out)?;
         }
         if self.no_requests > 0 {
-            writeln!(out, "no request{:>10}", self.no_requests)?;
+            writeln!(out, "{:12}{:>10}", "no request", self.no_requests)?;
         }
         writeln!(out, "{} requests compared, no difference", self.total())
     }
@@ -98,11 +98,14 @@ mod tests {
         tally.add("listing -", &model::answer("listing -"));
         tally.add("column - -", "ok 3");
         tally.add("check - 0 - 1", "refused 14 00");
+        tally.add("elementbits 3", "ok 16");
+        tally.add("elementbits +3", "bad request");
         tally.add("nothing", "bad request");
-        assert_eq!(tally.total(), 5);
-        assert_eq!([0, 1, 2, 14].map(|number| tally.occurrences(number)), [1, 2, 0, 1]);
-        assert!(tally.check(5, 1..=1).is_ok());
-        assert!(tally.check(6, 1..=1).is_err());
-        assert!(tally.check(5, 1..=2).is_err());
+        assert_eq!(tally.total(), 7);
+        assert_eq!([0, 1, 2, 14].map(|number| tally.occurrences(number)), [2, 2, 0, 1]);
+        assert!(tally.check(7, 1..=1).is_ok());
+        assert!(tally.check(8, 1..=1).is_err());
+        assert!(tally.check(7, 1..=2).is_err());
+        assert!(tally.to_string().contains("\nelementbits          1 "));
     }
 }

@@ -9,6 +9,7 @@
 pub mod aipsio;
 mod buckets;
 pub mod data_type;
+pub mod element_bits;
 pub mod hex;
 mod incremental;
 pub mod listing;
@@ -20,6 +21,7 @@ mod standard;
 pub mod table;
 
 pub use data_type::DataType;
+pub use element_bits::element_bits;
 pub use listing::listing;
 pub use question::{Plan, check, place, place_by_plan, plan, view, view_by_plan};
 pub use request::answer;

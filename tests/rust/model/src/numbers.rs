@@ -110,6 +110,12 @@ pub fn view_planned(
     question::view_range_by_plan(table, file, row, &Plan::of(plan), room).map(start_and_length)
 }
 
+/// The bits of an element of the type with this number, whose 64 bits are taken
+/// as signed.
+pub fn element_bits(number: u64) -> u64 {
+    crate::element_bits(number as i64)
+}
+
 /// What stands at a place that may be any 64-bit number.
 fn at<T>(items: &[T], index: u64) -> Result<&T, u8> {
     usize::try_from(index).ok().and_then(|index| items.get(index)).ok_or(NO_SUCH)

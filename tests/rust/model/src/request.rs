@@ -3,7 +3,7 @@
 
 use crate::question::{self, Plan};
 use crate::table::{Description, Kind, column, describe};
-use crate::{hex, listing};
+use crate::{element_bits, hex, listing};
 use std::fmt::Write;
 use std::ops::Range;
 
@@ -60,6 +60,7 @@ fn answer_request(line: &str) -> Option<String> {
             let answer = question::view_range_by_plan(&table, &file, row, &plan, &mut room);
             room_line(answer.map(range_text), &room)
         }
+        ["elementbits", data_type] => format!("ok {}", element_bits(signed(data_type)?)),
         _ => return None,
     })
 }
@@ -67,6 +68,15 @@ fn answer_request(line: &str) -> Option<String> {
 /// A number: decimal digits alone, up to 64 bits.
 fn number(field: &str) -> Option<u64> {
     if !field.bytes().all(|digit| digit.is_ascii_digit()) {
+        return None;
+    }
+    field.parse().ok()
+}
+
+/// A number that may have a `-` before its digits, of 64 bits with the sign.
+fn signed(field: &str) -> Option<i64> {
+    let digits = field.strip_prefix('-').unwrap_or(field);
+    if !digits.bytes().all(|digit| digit.is_ascii_digit()) {
         return None;
     }
     field.parse().ok()

@@ -1,5 +1,5 @@
 //! A writer of good and faulty `table.dat` files, and sets of request lines
-//! about them.
+//! about them and about type numbers.
 //!
 //! It knows the format from the scope document (whose rules docs/RULES.md
 //! states) and Casacore Note 260 on its own and
@@ -26,3 +26,4 @@ pub mod sets;
 pub mod small_file;
 pub mod standard;
 pub mod table;
+pub mod type_numbers;

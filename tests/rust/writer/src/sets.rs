@@ -10,6 +10,7 @@ use crate::rng::Rng;
 use crate::samples;
 use crate::small_file;
 use crate::table::{BOOL, Column, INT, Manager, Record, Table};
+use crate::type_numbers;
 
 /// How to ask for a set, for usage texts.
 pub const USAGE: &str = "\
@@ -18,6 +19,8 @@ prefixes           Description of every prefix of two good tables, as it is and
                    with the lengths of cut objects cut too
 bytes              Description after every change of one byte of a small table
 large [SEED COUNT] tables of 64 columns and 16 managers, near 65,536 bytes
+types [SEED COUNT] the bits of an element, by type number: -1,000 to 100,000
+                   and far numbers that end as a type's does, or generated ones
 bad                lines that are no requests
 standard SEED COUNT
                    generated questions about good and faulty StandardStMan files
@@ -33,6 +36,8 @@ pub enum Set {
     Prefixes,
     Bytes,
     Large { seed: u64, count: u64 },
+    Types,
+    SomeTypes { seed: u64, count: u64 },
     Bad,
     Standard { seed: u64, count: u64 },
     Incremental { seed: u64, count: u64 },
@@ -52,6 +57,10 @@ impl Set {
             ["bytes"] => Self::Bytes,
             ["large"] => Self::Large { seed: 1, count: 300 },
             ["large", seed, count] => Self::Large { seed: number(seed)?, count: number(count)? },
+            ["types"] => Self::Types,
+            ["types", seed, count] => {
+                Self::SomeTypes { seed: number(seed)?, count: number(count)? }
+            }
             ["bad"] => Self::Bad,
             ["standard", seed, count] => {
                 Self::Standard { seed: number(seed)?, count: number(count)? }
@@ -85,6 +94,11 @@ impl Set {
                 let rng = &mut Rng::new(seed, number);
                 let case = large_case(rng);
                 question(rng, &case)
+            })),
+            Self::Types => Box::new(type_numbers::lines()),
+            Self::SomeTypes { seed, count } => Box::new((0..count).map(move |number| {
+                let rng = &mut Rng::new(seed, number);
+                type_numbers::some_question(rng)
             })),
             Self::Bad => Box::new(bad().into_iter()),
             Self::Standard { seed, count } => Box::new((0..count).map(move |number| {
@@ -349,6 +363,32 @@ fn bad() -> Vec<String> {
         "viewplan - - 0 0,0,0,0,0,0,0,0,0",
         "viewplan - - 0 0,0,0,0,0,0,0,0,0 0 0",
         "checkplan - 0 - 0",
+        "elementbits",
+        "elementbits 5 5",
+        "elementbits - 5",
+        "elementbits -",
+        "elementbits --5",
+        "elementbits -+5",
+        "elementbits +5",
+        "elementbits 5-",
+        "elementbits 0x5",
+        "elementbits 0b1",
+        "elementbits 1e1",
+        "elementbits 5.0",
+        "elementbits 5,",
+        "elementbits 1,000",
+        "elementbits be",
+        "elementbits 0a",
+        "elementbits Int",
+        "elementbits 9223372036854775808",
+        "elementbits -9223372036854775809",
+        "elementbits 18446744073709551615",
+        "elementbits 18446744073709551616",
+        "elementbits 18446744073709551619", // 2^64 and a Short's number
+        "elementbits -18446744073709551613",
+        "elementBits 5",
+        "elementbit 5",
+        "typebits 5",
     ]
     .map(String::from)
     .into();
@@ -360,5 +400,12 @@ fn bad() -> Vec<String> {
     lines.push(format!("check {good} 0 {good} -"));
     lines.push(format!("plan {good} {good} 0"));
     lines.push(format!("place {good} {good} 0 0 1048577"));
+    lines.push(format!("elementbits {good}"));
+    for digit in ["9", "1"] {
+        let digits = digit.repeat(4096);
+        lines.push(format!("elementbits {digits}"));
+        lines.push(format!("elementbits -{digits}"));
+    }
+    lines.push(format!("elementbits 1{}", "0".repeat(64)));
     lines
 }
