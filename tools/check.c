@@ -235,7 +235,7 @@ const struct command check_command = {
             "tables. On a terminal it shows on standard error which table is being checked.\n"
             "Of a table without a data file that can be checked it says that only table.dat is accepted.\n",
     .least = 1,
-    .most = 0,
+    .most = ANY_NUMBER,
     .json = true,
     .directory = true,
     .run = check,

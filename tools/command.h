@@ -7,6 +7,8 @@
 /* Exit statuses, the same for every command. The greatest wins. */
 enum { STATUS_ACCEPTED = 0, STATUS_REFUSED = 1, STATUS_NOT_ASKED = 2 };
 
+enum { ANY_NUMBER = -1 };
+
 struct arguments {
     bool json;
     int count;
@@ -19,7 +21,7 @@ struct command {
     const char *summary; /* one line */
     const char *help;
     int least; /* arguments */
-    int most; /* 0: any number */
+    int most; /* or ANY_NUMBER */
     bool json; /* whether it takes --json */
     bool directory; /* whether its first argument is a table's directory, and all that there may be beyond `least` */
     int (*run)(const struct arguments *given); /* gives the exit status */
@@ -28,6 +30,7 @@ struct command {
 extern const struct command list_command;
 extern const struct command check_command;
 extern const struct command cell_command;
+extern const struct command types_command;
 
 /* Complains of the command line, says how to use the command, and gives the exit status. */
 int misused(const struct command *command, const char *format, ...) __attribute__((format(printf, 2, 3)));

@@ -21,10 +21,11 @@ static const struct command help_command = {
 };
 
 /* In the order in which they are shown. */
-static const struct command *const commands[] = {&list_command, &check_command, &cell_command, &help_command};
+static const struct command *const commands[] = {&list_command, &check_command, &cell_command,
+                                                 &types_command, &help_command};
 enum { COMMANDS = sizeof commands / sizeof *commands };
 
-static const char usage[] = "usage: hv COMMAND [--json] ARGUMENTS\n"
+static const char usage[] = "usage: hv COMMAND [--json] [ARGUMENT]...\n"
                             "       hv help [COMMAND]\n"
                             "       hv --version\n";
 
@@ -102,9 +103,11 @@ static bool is_end(const char *given)
 
 static int run(const struct command *command, const struct arguments *given)
 {
-    int i, directories = command->most == 0 ? given->count : 1;
+    int i, directories = command->most == ANY_NUMBER ? given->count : 1;
 
-    if (given->count < command->least || (command->most > 0 && given->count > command->most)) {
+    if (given->count > 0 && command->most == 0)
+        return misused(command, "no argument is taken, %d given", given->count);
+    if (given->count < command->least || (command->most != ANY_NUMBER && given->count > command->most)) {
         bool is_few = given->count < command->least;
         int bound = is_few ? command->least : command->most;
         bool is_exact = command->least == command->most;
