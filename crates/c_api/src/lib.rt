@@ -112,7 +112,7 @@ pub extern "C" fn hv_plan(
     a.refused as u64
 }
 
-// A place: first bit and bit count.
+// A place, of any question that asks for one.
 fn answer_place(table: &[u8], file: &[u8], q: Question, room: &mut [u8], out: &mut [u64]) -> u64
     ensures { λ r. ⌜ (r ≡ answerOf (now (table .entry)) (now (file .entry)) q (length (now (room .entry))) .refused) × (now (out .exit) ≡ written (placeNumbers (answerOf (now (table .entry)) (now (file .entry)) q (length (now (room .entry))))) (now (out .entry))) × (now (room .exit) ≡ roomAfter (now (table .entry)) (now (file .entry)) q (length (now (room .entry)))) ⌝ }
 {
@@ -132,7 +132,7 @@ fn answer_view(table: &[u8], file: &[u8], q: Question, room: &mut [u8], out: &mu
     a.refused as u64
 }
 
-// Place, of a row and a position: first bit and bit count, 2 numbers.
+// Place, of a row and a position: first bit and bit count, the looks of the search and the entries of the column's set, 4 numbers.
 #[no_mangle]
 pub extern "C" fn hv_place(
     table: &[u8],

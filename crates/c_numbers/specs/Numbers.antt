@@ -53,9 +53,9 @@ planFrom s = record {
   size = getD s 8 0;
 }
 
--- Place: "first bit and bit count, counted from the file's start"
+-- Place: "first bit and bit count, counted from the file's start", the looks of the search and the entries of the column's set
 abbrev pub placeNumbers : Answer → List ℕ
-placeNumbers a = a .first ∷ a .count ∷ []
+placeNumbers a = a .first ∷ a .count ∷ a .looks ∷ a .entries ∷ []
 
 -- View: the same part of the file in bytes, its start and its length
 abbrev pub viewNumbers : Answer → List ℕ

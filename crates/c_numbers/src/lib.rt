@@ -83,11 +83,16 @@ pub fn of_plan(p: Plan) -> [u64; 9]
     ]
 }
 
-// A place: first bit and bit count.
-pub fn of_place(a: Answer) -> [u64; 2]
+// A place: first bit and bit count, the looks of the search and the entries of the column's set.
+pub fn of_place(a: Answer) -> [u64; 4]
     ensures { λ r. ⌜ r ≡ placeNumbers a ⌝ }
 {
-    [a.first as u64, a.count as u64]
+    [
+        a.first as u64,
+        a.count as u64,
+        a.looks as u64,
+        a.entries as u64,
+    ]
 }
 
 // A view: the start and the length of the cell's part of the file, in bytes.

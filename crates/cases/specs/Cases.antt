@@ -47,7 +47,7 @@ gives t f n q first count =
 abbrev refuses : List ℕ → List ℕ → Question → ℕ → Bool
 refuses t f q n =
     let a = answerOf t f q roomLength in
-    eqb (a .refused) n && samePlan (a .plan) noPlan && eqb (a .first) 0 && eqb (a .count) 0
+    eqb (a .refused) n && samePlan (a .plan) noPlan && eqb (a .first) 0 && eqb (a .count) 0 && eqb (a .looks) 0 && eqb (a .entries) 0
     && sameBytes (roomAfter t f q roomLength) (replicate 140 0)
 
 -- table.dat with another offset of TIME: its last byte, 933

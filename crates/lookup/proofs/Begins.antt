@@ -9,6 +9,7 @@ use lib.ListN.{length, take}
 use lib.Seq.{length-take-le}
 use borrow.Author.Tests.{ne-eqb}
 use Rattle.standard_rules.specs.Place.{Bits}
+use Rattle.standard_rules.specs.Looks.{Looks}
 use Rattle.lookup_rules.specs.declared.Request.{Request}
 use Rattle.lookup_rules.specs.declared.Question.the-variants.{View}
 use Rattle.lookup_rules.specs.declared.Asked.{Asked}
@@ -18,13 +19,13 @@ use Rattle.lookup_rules.specs.Questions.{requestOf, answered, answerFor, answer
 use Rattle.lookup_rules.proofs.Stages.{answer-refused}
 use Rattle.lookup_rules.proofs.Views.{every-view}
 
-zeros : (r : Request) (s : Staged) (b : Bits) → (s .refused ≡ 0 → ⊥) → answered r s b .first ≡ 0
+zeros : (r : Request) (s : Staged) (b : Bits) (n : Looks) → (s .refused ≡ 0 → ⊥) → answered r s b n .first ≡ 0
 unfolding answered
-zeros r s b h = rw (ne-eqb (s .refused) 0 h)
+zeros r s b n h = rw (ne-eqb (s .refused) 0 h)
 
 no-first : (t f : List ℕ) (r : Request) (l : ℕ) → (answerFor t f r l .refused ≡ 0 → ⊥) → answerFor t f r l .first ≡ 0
 unfolding answerFor
-no-first t f r l h = zeros _ _ _ (λ e. h (answer-refused t f r l ∙ e))
+no-first t f r l h = zeros _ _ _ _ (λ e. h (answer-refused t f r l ∙ e))
 
 -- of every view, refused or not
 pub within : (t f : List ℕ) (l row : ℕ) (a : Asked) → answerOf t f (View row a) l .first / 8 ≤ length f

@@ -7,7 +7,7 @@ use Rattle.lookup_rules.specs.declared.Verdict.{Verdict}
 use Rattle.lookup_rules.specs.declared.Planned.{Planned}
 use Rattle.lookup_rules.specs.declared.Placed.{Placed}
 use Rattle.lookup_rules.specs.Questions.{answerOf, roomAfter}
-use Rattle.lookup_rules.specs.Answers.{verdictOf, verdictRefusal, plannedOf, plannedRefusal, plannedPlan, placedOf, placedRefusal, placedBits, answerBits}
+use Rattle.lookup_rules.specs.Answers.{verdictOf, verdictRefusal, plannedOf, plannedRefusal, plannedPlan, placedOf, placedRefusal, placedBits, placedLooks, answerBits, answerLooks}
 use Rattle.lookup_rules.proofs.Said.{every-answer}
 
 module _ (t f : List ℕ) (q : Question) (l : ℕ) {room : List ℕ} (left : room ≡ roomAfter t f q l) where
@@ -22,5 +22,6 @@ module _ (t f : List ℕ) (q : Question) (l : ℕ) {room : List ℕ} (left : roo
 
   pub placed-says : {r : Placed} → r ≡ placedOf (answerOf t f q l)
       → ((r ≡ placedOf (answerOf t f q l)) × (room ≡ roomAfter t f q l))
-      × ((placedRefusal r ≡ answerOf t f q l .refused) × (placedBits r ≡ answerBits (answerOf t f q l)))
-  placed-says e = ((e, left), (ap placedRefusal e ∙ every-answer t f q l .placed, ap placedBits e ∙ every-answer t f q l .bits))
+      × ((placedRefusal r ≡ answerOf t f q l .refused) × (placedBits r ≡ answerBits (answerOf t f q l)) × (placedLooks r ≡ answerLooks (answerOf t f q l)))
+  placed-says e =
+      ((e, left), (ap placedRefusal e ∙ every-answer t f q l .placed, ap placedBits e ∙ every-answer t f q l .bits, ap placedLooks e ∙ every-answer t f q l .looks))

@@ -6,7 +6,8 @@ use mathlib.Core.List.{List}
 use lib.ListN.{length, replicate}
 use Rattle.lookup_rules.specs.declared.Staged.{Staged}
 use Rattle.standard_index.specs.Bounds.{SetInside}
-use Rattle.standard.specs.Bit.{bitByHalving}
+use Rattle.standard.specs.Bit.{locatedBy, noCell}
+use Rattle.standard.specs.declared.Located.{Located}
 use Rattle.lookup_rules.specs.declared.Request.{Request}
 use Rattle.lookup_rules.specs.Questions.{answered}
 use Rattle.lookup_rules.specs.declared.Answer.{Answer}
@@ -27,14 +28,15 @@ pub record Findable (text : List ℕ) (s : Staged) (row : ℕ) : Type 0 where
   pub bits-most : s .plan .bits ≤ 4294967296
   pub row-most : row ≤ 2147483647
 
--- the first bit of the cell, 0 where none is asked for or the question is refused
-unfoldable pub cellBit : List ℕ → Staged → Request → ℕ
-cellBit text s r =
-    let there = s .first in
-    let here = bitByHalving text (s .set) (s .plan .size) (s .plan .offset) (s .plan .bits) (r .row) in
+-- the cell, zeros where none is asked for or the question is refused
+unfoldable pub cellFound : List ℕ → Staged → Request → Located
+cellFound text s r =
+    let there : Located = record { first = s .first; looks = 0; entries = 0 } in
+    let here = locatedBy text (s .set) (s .plan .size) (s .plan .offset) (s .plan .bits) (r .row) in
     let cell = cond (s .incremental) there here in
-    cond (eqb (s .refused) 0 && r .cell) cell 0
+    cond (eqb (s .refused) 0 && r .cell) cell noCell
 
--- the answer with a first bit
-abbrev pub answerWith : Request → Staged → ℕ → Answer
-answerWith r s first = answered r s (record { first = first; count = s .plan .bits })
+-- the answer with a cell
+abbrev pub answerWith : Request → Staged → Located → Answer
+answerWith r s x =
+    answered r s (record { first = x .first; count = s .plan .bits }) (record { looks = x .looks; entries = x .entries })

@@ -2,11 +2,12 @@
 ghost use mathlib.Core.Path.{_≡_};
 ghost use mathlib.Core.Bool.{true, false, cond};
 ghost use Rattle.lookup_rules.specs.Questions.{noPlan};
-ghost use Rattle.lookup.specs.Answering.{keepsText, roomSettled, Findable, cellBit, answerWith};
+ghost use Rattle.lookup.specs.Answering.{keepsText, roomSettled, Findable, cellFound, answerWith};
 use lookup_rules::Answer;
 use lookup_rules::Plan;
 use lookup_rules::Request;
 use lookup_rules::Staged;
+use standard::Located;
 
 // Whether the room keeps the index text.
 pub fn keeps_text(s: Staged) -> bool
@@ -28,24 +29,28 @@ pub fn settle(keep: bool, room: &mut [u8])
     bytes_at::clear(room);
 }
 
-// The first bit of the cell that a question asks for: in StandardStMan by the index text in the room. 0 where the question asks
-// for none or is refused.
-pub fn cell_bit(room: &[u8], s: Staged, r: Request) -> usize
+// The cell that a question asks for: in StandardStMan by the index text in the room; in IncrementalStMan the check has found it,
+// and no last rows are looked at. Zeros where the question asks for none or is refused.
+pub fn find_cell(room: &[u8], s: Staged, r: Request) -> Located
     requires { ⌜ (s .refused ≡ 0 → r .cell ≡ true → s .incremental ≡ false → Findable (now room) s (r .row)) ⌝ }
-    ensures { λ b. ⌜ b ≡ cellBit (now (room .entry)) s r ⌝ }
+    ensures { λ x. ⌜ x ≡ cellFound (now (room .entry)) s r ⌝ }
 {
     if s.refused != 0 {
-        return 0;
+        return standard::place::no_cell();
     }
     if r.cell {
         if s.incremental {
-            return s.first;
+            return Located {
+                first: s.first,
+                looks: 0,
+                entries: 0,
+            };
         }
         let p = s.plan;
         let set = s.set;
-        return standard::place::first_bit(room, set, p.size, p.offset, p.bits, r.row);
+        return standard::place::locate(room, set, p.size, p.offset, p.bits, r.row);
     }
-    0
+    standard::place::no_cell()
 }
 
 // The plan that is answered: none where no column is asked for.
@@ -59,9 +64,9 @@ fn told(column: bool, p: Plan) -> Plan
 }
 
 // "A refusal carries its number and zeros." Every other answer has the file's bucket size; a check answers no plan, and only a
-// place or a view has bits.
-pub fn answer(r: Request, s: Staged, first: usize) -> Answer
-    ensures { λ a. ⌜ a ≡ answerWith r s first ⌝ }
+// place or a view has bits and looks.
+pub fn answer(r: Request, s: Staged, cell: Located) -> Answer
+    ensures { λ a. ⌜ a ≡ answerWith r s cell ⌝ }
 {
     let refused = s.refused;
     if refused != 0 {
@@ -71,6 +76,8 @@ pub fn answer(r: Request, s: Staged, first: usize) -> Answer
             plan: lookup_question::reading::no_plan(),
             first: 0,
             count: 0,
+            looks: 0,
+            entries: 0,
         };
     }
     let p = s.plan;
@@ -79,8 +86,10 @@ pub fn answer(r: Request, s: Staged, first: usize) -> Answer
             refused: 0,
             size: p.size,
             plan: told(r.column, p),
-            first: first,
+            first: cell.first,
             count: p.bits,
+            looks: cell.looks,
+            entries: cell.entries,
         };
     }
     Answer {
@@ -89,5 +98,7 @@ pub fn answer(r: Request, s: Staged, first: usize) -> Answer
         plan: told(r.column, p),
         first: 0,
         count: 0,
+        looks: 0,
+        entries: 0,
     }
 }

@@ -11,8 +11,8 @@ pub fn ask(table: &[u8], file: &[u8], q: Question, room: &mut [u8]) -> Answer
 {
     let r = lookup_question::reading::read(q);
     let s = lookup_stages::stages(table, file, r, room);
-    let first = crate::answer::cell_bit(room, s, r);
+    let cell = crate::answer::find_cell(room, s, r);
     let keep = crate::answer::keeps_text(s);
     crate::answer::settle(keep, room);
-    crate::answer::answer(r, s, first)
+    crate::answer::answer(r, s, cell)
 }

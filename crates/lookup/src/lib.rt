@@ -7,7 +7,7 @@ ghost use lib.ListN.{length};
 ghost use Prim.Native.Nat.{_+_, _/_};
 ghost use denote.Ref.{ptr};
 ghost use Rattle.lookup_rules.specs.Questions.{answerOf, roomAfter};
-ghost use Rattle.lookup_rules.specs.Answers.{verdictOf, verdictRefusal, plannedOf, plannedRefusal, plannedPlan, placedOf, placedRefusal, placedBits, answerBits, viewOf};
+ghost use Rattle.lookup_rules.specs.Answers.{verdictOf, verdictRefusal, plannedOf, plannedRefusal, plannedPlan, placedOf, placedRefusal, placedBits, placedLooks, answerBits, answerLooks, viewOf};
 use lookup_rules::Asked;
 use lookup_rules::Placed;
 use lookup_rules::Plan;
@@ -36,7 +36,7 @@ pub fn make_plan(table: &[u8], file: &[u8], position: usize, room: &mut [u8]) ->
 // Place of a row and a column position.
 pub fn place(table: &[u8], file: &[u8], row: usize, position: usize, room: &mut [u8]) -> Placed
     ensures { λ r. ⌜ (r ≡ placedOf (answerOf (now (table .entry)) (now (file .entry)) (Question.Place row (Asked.Position position)) (length (now (room .entry))))) × (now (room .exit) ≡ roomAfter (now (table .entry)) (now (file .entry)) (Question.Place row (Asked.Position position)) (length (now (room .entry)))) ⌝ }
-    ensures says { λ r. ⌜ (placedRefusal r ≡ answerOf (now (table .entry)) (now (file .entry)) (Question.Place row (Asked.Position position)) (length (now (room .entry))) .refused) × (placedBits r ≡ answerBits (answerOf (now (table .entry)) (now (file .entry)) (Question.Place row (Asked.Position position)) (length (now (room .entry))))) ⌝ }
+    ensures says { λ r. ⌜ (placedRefusal r ≡ answerOf (now (table .entry)) (now (file .entry)) (Question.Place row (Asked.Position position)) (length (now (room .entry))) .refused) × (placedBits r ≡ answerBits (answerOf (now (table .entry)) (now (file .entry)) (Question.Place row (Asked.Position position)) (length (now (room .entry))))) × (placedLooks r ≡ answerLooks (answerOf (now (table .entry)) (now (file .entry)) (Question.Place row (Asked.Position position)) (length (now (room .entry))))) ⌝ }
 {
     let a = crate::ask::ask(
         table,
@@ -50,7 +50,7 @@ pub fn place(table: &[u8], file: &[u8], row: usize, position: usize, room: &mut 
 // Place of a row by a prepared plan.
 pub fn place_planned(table: &[u8], file: &[u8], row: usize, plan: Plan, room: &mut [u8]) -> Placed
     ensures { λ r. ⌜ (r ≡ placedOf (answerOf (now (table .entry)) (now (file .entry)) (Question.Place row (Asked.Planned plan)) (length (now (room .entry))))) × (now (room .exit) ≡ roomAfter (now (table .entry)) (now (file .entry)) (Question.Place row (Asked.Planned plan)) (length (now (room .entry)))) ⌝ }
-    ensures says { λ r. ⌜ (placedRefusal r ≡ answerOf (now (table .entry)) (now (file .entry)) (Question.Place row (Asked.Planned plan)) (length (now (room .entry))) .refused) × (placedBits r ≡ answerBits (answerOf (now (table .entry)) (now (file .entry)) (Question.Place row (Asked.Planned plan)) (length (now (room .entry))))) ⌝ }
+    ensures says { λ r. ⌜ (placedRefusal r ≡ answerOf (now (table .entry)) (now (file .entry)) (Question.Place row (Asked.Planned plan)) (length (now (room .entry))) .refused) × (placedBits r ≡ answerBits (answerOf (now (table .entry)) (now (file .entry)) (Question.Place row (Asked.Planned plan)) (length (now (room .entry))))) × (placedLooks r ≡ answerLooks (answerOf (now (table .entry)) (now (file .entry)) (Question.Place row (Asked.Planned plan)) (length (now (room .entry))))) ⌝ }
 {
     let a = crate::ask::ask(
         table,

@@ -38,6 +38,8 @@ pub fn placed(a: Answer) -> Placed
         return Placed::At {
             first: a.first,
             count: a.count,
+            looks: a.looks,
+            entries: a.entries,
         };
     }
     Placed::Refused(refused)

@@ -45,7 +45,7 @@ module _ (t f : List ℕ) (p : Plan) (l : ℕ) where
   made-plan : preparedNow t f p l .refused ≡ 0 → preparedNow t f p l .plan ≡ planOfNow t f now l
   unfolding answerFor
   made-plan h =
-      ap (λ (a : Answer). a .plan) (answered-is now (stagesOf t f now l) _ (sym (answer-refused t f now l) ∙ h))
+      ap (λ (a : Answer). a .plan) (answered-is now (stagesOf t f now l) _ _ (sym (answer-refused t f now l) ∙ h))
       ∙ prepare-plan t f (p .position) l
 
 -- ---- a cell by the plan, or by the plan's position; of its view where v is true

@@ -8,4 +8,5 @@ pub mod Refusals
 pub mod Plans
 pub mod Fresh
 pub mod Said
+pub mod Looks
 pub mod Views

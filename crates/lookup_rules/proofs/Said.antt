@@ -1,18 +1,23 @@
 -- What the cases of an answer say is what the answer says. Assumes nothing.
 use mathlib.Core.Path.{_≡_, sym}
+use mathlib.Core.List.{List}
+use Prim.Native.Nat.{ℕ}
 use native.Mathlib.Decide.{ℕ-discrete}
 use borrow.Author.Tests.{eq-eqb, ne-eqb}
 use Rattle.standard_rules.specs.Place.{Bits}
+use Rattle.standard_rules.specs.Looks.{Looks}
 use Rattle.lookup_rules.specs.declared.Request.{Request}
 use Rattle.lookup_rules.specs.declared.Staged.{Staged}
+use Rattle.lookup_rules.specs.declared.Question.{Question}
 use Rattle.lookup_rules.specs.declared.Answer.{Answer}
-use Rattle.lookup_rules.specs.Questions.{noPlan, noBits, answered, answerFor}
-use Rattle.lookup_rules.specs.Answers.{verdictRefusal, verdictOf, plannedRefusal, plannedPlan, plannedOf, placedRefusal, placedBits, placedOf, answerBits, Says, EveryAnswer}
+use Rattle.lookup_rules.specs.Questions.{noPlan, noBits, noLooks, answered, answerFor, answerOf}
+use Rattle.lookup_rules.specs.Answers.{verdictRefusal, verdictOf, plannedRefusal, plannedPlan, plannedOf, placedRefusal, placedBits, placedLooks, placedOf, answerBits, answerLooks, Says, EveryAnswer}
 
 -- "A refusal carries its number and zeros."
 record Zeros (a : Answer) : Type 0 where
   no-plan : (a .refused ≡ 0 → ⊥) → noPlan ≡ a .plan
   no-bits : (a .refused ≡ 0 → ⊥) → noBits ≡ answerBits a
+  no-looks : (a .refused ≡ 0 → ⊥) → noLooks ≡ answerLooks a
 
 module _ (a : Answer) (z : Zeros a) where
   by-verdict : verdictRefusal (verdictOf a) ≡ a .refused
@@ -35,20 +40,29 @@ module _ (a : Answer) (z : Zeros a) where
   unfolding placedOf
   by-bits = elim (ℕ-discrete (a .refused) 0) [ yes e ↦ rw (eq-eqb (a .refused) 0 e) | no n ↦ rw (ne-eqb (a .refused) 0 n) (z .no-bits n) ]
 
-answered-number : (r : Request) (s : Staged) (b : Bits) → (answered r s b .refused ≡ 0 → ⊥) → s .refused ≡ 0 → ⊥
-unfolding answered
-answered-number r s b h e = h (rw (eq-eqb (s .refused) 0 e))
+  by-looks : placedLooks (placedOf a) ≡ answerLooks a
+  unfolding placedOf
+  by-looks = elim (ℕ-discrete (a .refused) 0) [ yes e ↦ rw (eq-eqb (a .refused) 0 e) | no n ↦ rw (ne-eqb (a .refused) 0 n) (z .no-looks n) ]
 
-zeros : (r : Request) (s : Staged) (b : Bits) → Zeros (answered r s b)
+answered-number : (r : Request) (s : Staged) (b : Bits) (n : Looks) → (answered r s b n .refused ≡ 0 → ⊥) → s .refused ≡ 0 → ⊥
 unfolding answered
-zeros r s b = record {
-  no-plan = λ h. rw (ne-eqb (s .refused) 0 (answered-number r s b h));
-  no-bits = λ h. rw (ne-eqb (s .refused) 0 (answered-number r s b h));
+answered-number r s b n h e = h (rw (eq-eqb (s .refused) 0 e))
+
+zeros : (r : Request) (s : Staged) (b : Bits) (n : Looks) → Zeros (answered r s b n)
+unfolding answered
+zeros r s b n = record {
+  no-plan = λ h. rw (ne-eqb (s .refused) 0 (answered-number r s b n h));
+  no-bits = λ h. rw (ne-eqb (s .refused) 0 (answered-number r s b n h));
+  no-looks = λ h. rw (ne-eqb (s .refused) 0 (answered-number r s b n h));
 }
 
 said : (a : Answer) → Zeros a → Says a
-said a z = record { verdict = by-verdict a z; planned = by-planned a z; plan = by-plan a z; placed = by-placed a z; bits = by-bits a z }
+said a z = record { verdict = by-verdict a z; planned = by-planned a z; plan = by-plan a z; placed = by-placed a z; bits = by-bits a z; looks = by-looks a z }
+
+pub refused-looks : (t f : List ℕ) (q : Question) (l : ℕ) → (answerOf t f q l .refused ≡ 0 → ⊥) → answerLooks (answerOf t f q l) ≡ noLooks
+unfolding answerFor
+refused-looks t f q l h = sym (zeros _ _ _ _ .no-looks h)
 
 pub every-answer : EveryAnswer
 unfolding answerFor
-every-answer t f q l = said _ (zeros _ _ _)
+every-answer t f q l = said _ (zeros _ _ _ _)

@@ -13,27 +13,37 @@ use Rattle.bytes_at.proofs.Stages.{then-left, then-right, or-passed}
 use Rattle.table_rules.specs.declared.Description.{Description}
 use Rattle.table_rules.specs.Table.{describedAs, columnIn, bindingIn}
 use Rattle.standard_rules.specs.Place.{Bits}
+use Rattle.standard_rules.specs.Looks.{Looks}
 use Rattle.lookup_rules.specs.declared.Request.{Request}
 use Rattle.lookup_rules.specs.declared.Target.{Target}
 use Rattle.lookup_rules.specs.declared.Staged.{Staged}
-use Rattle.lookup_rules.specs.Questions.{sequenceFor, isColumn, kindWith, isIncremental, isPlaced, isHeld, isBelow, isSeen, targetOf, planFor, stagesAfter, stagesOf, placeIn, noPlan, noBits, answered, answerFor, roomFor}
+use Rattle.lookup_rules.specs.Questions.{sequenceFor, isColumn, kindWith, isIncremental, isPlaced, isHeld, isBelow, isSeen, targetOf, planFor, stagesAfter, stagesOf, placeIn, looksIn, noPlan, noBits, noLooks, answered, answerFor, roomFor}
 use Rattle.lookup_rules.specs.Stale.{checkedFor}
 use Rattle.lookup_rules.proofs.Files.{target-passed}
 
 -- ---- the answer
-answered-first : (r : Request) (s : Staged) (b : Bits) → answered r s b .refused ≡ s .refused
+answered-first : (r : Request) (s : Staged) (b : Bits) (n : Looks) → answered r s b n .refused ≡ s .refused
 unfolding answered
-answered-first r s b = elim (ℕ-discrete (s .refused) 0) [ yes e ↦ rw (eq-eqb (s .refused) 0 e) (sym e) | no n ↦ rw (ne-eqb (s .refused) 0 n) ]
+answered-first r s b n = elim (ℕ-discrete (s .refused) 0) [ yes e ↦ rw (eq-eqb (s .refused) 0 e) (sym e) | no h ↦ rw (ne-eqb (s .refused) 0 h) ]
 
 -- an answer is refused as its stages are
 pub answer-refused : (t f : List ℕ) (r : Request) (l : ℕ) → answerFor t f r l .refused ≡ stagesOf t f r l .refused
 unfolding answerFor
-answer-refused t f r l = answered-first _ _ _
+answer-refused t f r l = answered-first _ _ _ _
 
-pub answered-is : (r : Request) (s : Staged) (b : Bits) → s .refused ≡ 0
-    → answered r s b ≡ record { refused = 0; size = s .plan .size; plan = cond (r .column) (s .plan) noPlan; first = cond (r .cell) b noBits .first; count = cond (r .cell) b noBits .count }
+pub answered-is : (r : Request) (s : Staged) (b : Bits) (n : Looks) → s .refused ≡ 0
+    → answered r s b n
+    ≡ record {
+      refused = 0;
+      size = s .plan .size;
+      plan = cond (r .column) (s .plan) noPlan;
+      first = cond (r .cell) b noBits .first;
+      count = cond (r .cell) b noBits .count;
+      looks = cond (r .cell) n noLooks .looks;
+      entries = cond (r .cell) n noLooks .entries;
+    }
 unfolding answered
-answered-is r s b h = rw (eq-eqb (s .refused) 0 h)
+answered-is r s b n h = rw (eq-eqb (s .refused) 0 h)
 
 -- ---- the stages of a question
 module _ (d : Description) (r : Request) where
@@ -107,9 +117,12 @@ module _ (t f : List ℕ) (r : Request) (l : ℕ) where
   unfolding stagesOf stagesAfter _>>=_
   stages-first = refl
 
-  -- the cell that a question asks for
+  -- the cell that a question asks for, and the search for it
   abbrev pub cellFor : Bits
   cellFor = cond (r .cell) (placeIn (describedAs t) (targetFor .incremental) (targetFor .sequence) f (r .row) (r .position)) noBits
+
+  abbrev pub looksFor : Looks
+  looksFor = cond (r .cell) (looksIn (describedAs t) (targetFor .incremental) (targetFor .sequence) f (r .row) (r .position)) noLooks
 
 -- What an answer that is not refused shows.
 pub record Passed (t f : List ℕ) (r : Request) (l : ℕ) : Type 0 where
@@ -117,7 +130,16 @@ pub record Passed (t f : List ℕ) (r : Request) (l : ℕ) : Type 0 where
   pub held : targetFor t f r l .refused ≡ 0
   pub checked : checkedFor t f r l .refused ≡ 0
   pub row : T (isBelow r (describedAs t .rows))
-  pub same : answerFor t f r l ≡ record { refused = 0; size = stagesOf t f r l .plan .size; plan = cond (r .column) (stagesOf t f r l .plan) noPlan; first = cellFor t f r l .first; count = cellFor t f r l .count }
+  pub same : answerFor t f r l
+      ≡ record {
+        refused = 0;
+        size = stagesOf t f r l .plan .size;
+        plan = cond (r .column) (stagesOf t f r l .plan) noPlan;
+        first = cellFor t f r l .first;
+        count = cellFor t f r l .count;
+        looks = looksFor t f r l .looks;
+        entries = looksFor t f r l .entries;
+      }
 
 pub passed : (t f : List ℕ) (r : Request) (l : ℕ) → answerFor t f r l .refused ≡ 0 → Passed t f r l
 unfolding answerFor
@@ -131,7 +153,7 @@ passed t f r l h =
       held = g;
       checked = c;
       row = row-passed t f r l z;
-      same = rw (← (stages-sequence t f r l), ← (stages-kind t f r l)) (answered-is _ _ _ z);
+      same = rw (← (stages-sequence t f r l), ← (stages-kind t f r l)) (answered-is _ _ _ _ z);
     }
 
 -- ---- "It is all zero after every refusal": the room

@@ -7,6 +7,7 @@ use lib.ListN.{take, drop}
 use lib.Dec.{eqb}
 use mathlib.Core.Path.{_≡_}
 use Rattle.standard_rules.specs.Place.{Bits}
+use Rattle.standard_rules.specs.Looks.{Looks}
 use Rattle.lookup_rules.specs.declared.Plan.{Plan}
 use Rattle.lookup_rules.specs.declared.Question.{Question}
 use Rattle.lookup_rules.specs.declared.Answer.{Answer}
@@ -16,7 +17,7 @@ use Rattle.lookup_rules.specs.declared.Planned.{Planned}
 use Rattle.lookup_rules.specs.declared.Planned.the-variants.{Ready, Refused as NotPlanned}
 use Rattle.lookup_rules.specs.declared.Placed.{Placed}
 use Rattle.lookup_rules.specs.declared.Placed.the-variants.{At, Refused as NotPlaced}
-use Rattle.lookup_rules.specs.Questions.{noPlan, noBits, answerOf}
+use Rattle.lookup_rules.specs.Questions.{noPlan, noBits, noLooks, answerOf}
 
 -- File check
 unfoldable pub verdictOf : Answer → Verdict
@@ -38,21 +39,29 @@ abbrev pub plannedPlan : Planned → Plan
 plannedPlan (Ready p) = p
 plannedPlan (NotPlanned n) = noPlan
 
--- Place: "first bit and bit count, counted from the file's start"
+-- Place: "first bit and bit count, counted from the file's start"; "how many last-row entries the final search looked at", and how
+-- many the column's set has
 unfoldable pub placedOf : Answer → Placed
-placedOf a = cond (eqb (a .refused) 0) (At (a .first) (a .count)) (NotPlaced (a .refused))
+placedOf a = cond (eqb (a .refused) 0) (At (a .first) (a .count) (a .looks) (a .entries)) (NotPlaced (a .refused))
 
 abbrev pub placedRefusal : Placed → ℕ
-placedRefusal (At first count) = 0
+placedRefusal (At first count looks entries) = 0
 placedRefusal (NotPlaced n) = n
 
 abbrev pub placedBits : Placed → Bits
-placedBits (At first count) = record { first = first; count = count }
+placedBits (At first count looks entries) = record { first = first; count = count }
 placedBits (NotPlaced n) = noBits
 
--- the bits of an answer
+abbrev pub placedLooks : Placed → Looks
+placedLooks (At first count looks entries) = record { looks = looks; entries = entries }
+placedLooks (NotPlaced n) = noLooks
+
+-- the bits, and the looks, of an answer
 abbrev pub answerBits : Answer → Bits
 answerBits a = record { first = a .first; count = a .count }
+
+abbrev pub answerLooks : Answer → Looks
+answerLooks a = record { looks = a .looks; entries = a .entries }
 
 -- View: "the part of the caller's file that holds the cell. A refused view is the empty part"
 unfoldable pub viewOf : List ℕ → Answer → List ℕ
@@ -65,6 +74,7 @@ pub record Says (a : Answer) : Type 0 where
   pub plan : plannedPlan (plannedOf a) ≡ a .plan
   pub placed : placedRefusal (placedOf a) ≡ a .refused
   pub bits : placedBits (placedOf a) ≡ answerBits a
+  pub looks : placedLooks (placedOf a) ≡ answerLooks a
 
 abbrev pub EveryAnswer : Type 0
 EveryAnswer = (t f : List ℕ) (q : Question) (l : ℕ) → Says (answerOf t f q l)

@@ -3,4 +3,5 @@ pub mod Questions
 pub mod Answers
 pub mod Stale
 pub mod Views
+pub mod Looks
 pub mod Demand

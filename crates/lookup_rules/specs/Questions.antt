@@ -20,6 +20,7 @@ use Rattle.standard_rules.specs.Index.{noSet, indexTextOf}
 use Rattle.standard_rules.specs.Map.{ceil8, mapOf}
 use Rattle.standard_rules.specs.Check.{checkedAs, padded}
 use Rattle.standard_rules.specs.Place.{Bits, placeOf}
+use Rattle.standard_rules.specs.Looks.{Looks, looksOf}
 use Rattle.incremental_rules.specs.declared.Checked.{Checked as IncrementalChecked}
 use Rattle.incremental_rules.specs.Check.{checkedAs as incrementalAs}
 use Rattle.incremental_rules.specs.Place.{placeOf as incrementalPlace}
@@ -217,20 +218,40 @@ placeIn d incremental sequence f row position =
 abbrev pub noBits : Bits
 noBits = record { first = 0; count = 0 }
 
+abbrev pub noLooks : Looks
+noLooks = record { looks = 0; entries = 0 }
+
+-- the looks of the search for it; "a place in IncrementalStMan, has count 0"
+unfoldable pub looksIn : Description → Bool → ℕ → List ℕ → ℕ → ℕ → Looks
+looksIn d incremental sequence f row position =
+    let here = looksOf (mapOf d sequence f) row position in
+    cond incremental noLooks here
+
 -- "A refusal carries its number and zeros." Every other answer has the file's bucket size; a check answers no plan, and only a place
--- or a view has bits.
-unfoldable pub answered : Request → Staged → Bits → Answer
-answered r s b =
+-- or a view has bits and looks.
+unfoldable pub answered : Request → Staged → Bits → Looks → Answer
+answered r s b n =
     let plan = cond (r .column) (s .plan) noPlan in
     let bits = cond (r .cell) b noBits in
+    let looks = cond (r .cell) n noLooks in
     cond (eqb (s .refused) 0)
-    (record { refused = 0; size = s .plan .size; plan = plan; first = bits .first; count = bits .count })
-    (record { refused = s .refused; size = 0; plan = noPlan; first = 0; count = 0 })
+    (record {
+      refused = 0;
+      size = s .plan .size;
+      plan = plan;
+      first = bits .first;
+      count = bits .count;
+      looks = looks .looks;
+      entries = looks .entries;
+    })
+    (record { refused = s .refused; size = 0; plan = noPlan; first = 0; count = 0; looks = 0; entries = 0 })
 
 unfoldable pub answerFor : List ℕ → List ℕ → Request → ℕ → Answer
 answerFor t f r l =
     let s = stagesOf t f r l in
-    answered r s (placeIn (describedAs t) (s .incremental) (s .sequence) f (r .row) (r .position))
+    answered r s
+    (placeIn (describedAs t) (s .incremental) (s .sequence) f (r .row) (r .position))
+    (looksIn (describedAs t) (s .incremental) (s .sequence) f (r .row) (r .position))
 
 -- "It is all zero after every refusal and for every IncrementalStMan file; after acceptance in StandardStMan it holds the index
 -- text, then zeros."

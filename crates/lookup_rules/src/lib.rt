@@ -75,13 +75,16 @@ pub struct Staged {
     pub first: usize,
 }
 
-// The number and zeros; or 0, the file's bucket size, the plan, and for a place or a view the first bit and the bit count.
+// The number and zeros; or 0, the file's bucket size, the plan, and for a place or a view the first bit and the bit count, with the
+// looks of the search for it and the entries of the column's set.
 pub struct Answer {
     pub refused: usize,
     pub size: usize,
     pub plan: Plan,
     pub first: usize,
     pub count: usize,
+    pub looks: usize,
+    pub entries: usize,
 }
 
 pub enum Verdict {
@@ -95,6 +98,11 @@ pub enum Planned {
 }
 
 pub enum Placed {
-    At { first: usize, count: usize },
+    At {
+        first: usize,
+        count: usize,
+        looks: usize,
+        entries: usize,
+    },
     Refused(usize),
 }

@@ -16,7 +16,7 @@ use Rattle.standard_index.proofs.chain.Room.{index-long, padded-text}
 use Rattle.standard_rules.specs.Map.{MapColumn, fits, setsFrom, mapFrom, mapWith}
 use Rattle.standard_rules.specs.declared.Header.{Header}
 use Rattle.standard_rules.specs.Header.{headerAt}
-use Rattle.standard_index.specs.Bounds.{HeaderBounds}
+use Rattle.standard_rules.specs.Header.{HeaderBounds}
 use Rattle.standard_rules.specs.declared.Set.{Set}
 use Rattle.standard_rules.specs.declared.Index.{Index}
 use Rattle.standard_rules.specs.declared.Checked.{Checked}

@@ -20,6 +20,13 @@ use standard_rules::Checked;
 use standard_rules::Header;
 use standard_rules::Set;
 
+// A cell: its first bit, how many last rows were looked at to find it, and how many its set has.
+pub struct Located {
+    pub first: usize,
+    pub looks: usize,
+    pub entries: usize,
+}
+
 // A refused file: its number and zeros.
 fn refuse(number: usize) -> Checked
     ensures { λ r. ⌜ r ≡ refusedFile number ⌝ }

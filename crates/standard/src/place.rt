@@ -1,28 +1,46 @@
-// Where a cell of a StandardStMan file begins (RULES.md 5.8).
+// Where a cell of a StandardStMan file begins, and how many last rows are looked at to find it (RULES.md 5.8 and 5.9).
 ghost use lib.ListN.{length};
 ghost use Prim.Native.Nat.{_≤_, _<_};
 ghost use mathlib.Core.Path.{_≡_};
 ghost use Rattle.standard_index.specs.Bounds.{SetInside};
-ghost use Rattle.standard.specs.Bit.{bitByHalving};
+ghost use Rattle.standard.specs.Bit.{locatedBy, noCell};
+use crate::Located;
 use bytes_at::Width;
 use standard_rules::Set;
 
-// The first bit of a row's cell in the column at the offset, whose cells have so many bits. The set's lists stand in the text.
-// A set without entries has no cells, and gives 0.
-pub fn first_bit(text: &[u8], s: Set, size: usize, offset: usize, bits: usize, row: usize) -> usize
+// No cell.
+pub fn no_cell() -> Located
+    ensures { λ r. ⌜ r ≡ noCell ⌝ }
+{
+    Located {
+        first: 0,
+        looks: 0,
+        entries: 0,
+    }
+}
+
+// A row's cell in the column at the offset, whose cells have so many bits. The set's lists stand in the text. A set without
+// entries has no cells, and gives zeros.
+pub fn locate(text: &[u8], s: Set, size: usize, offset: usize, bits: usize, row: usize) -> Located
     requires { ⌜ SetInside (length (now text)) 4 s ⌝ }
     requires { ⌜ (size ≤ 1048576) × (offset < 4294967296) × (bits ≤ 4294967296) × (row ≤ 2147483647) ⌝ }
-    ensures { λ r. ⌜ (0 < s .entries → r ≡ bitByHalving (now (text .entry)) s size offset bits row) × (s .entries ≡ 0 → r ≡ 0) ⌝ }
+    ensures { λ r. ⌜ (0 < s .entries → r ≡ locatedBy (now (text .entry)) s size offset bits row) × (s .entries ≡ 0 → r ≡ noCell) ⌝ }
 {
     let n = s.entries;
     let lasts = s.lasts;
     let buckets = s.buckets;
     if n == 0 {
-        return 0;
+        return no_cell();
     }
     let e = standard_index::rows::find_entry(text, lasts, n, row, true, Width::Four);
     let at = e.at;
     let b = bytes_at::word(text, buckets + at * 4, true);
     let r = standard_index::rows::local_row(text, lasts, at, row, true, Width::Four);
-    8 * (512 + b * size + offset) + r * bits
+    let first = 8 * (512 + b * size + offset) + r * bits;
+    let looks = e.looks;
+    Located {
+        first,
+        looks,
+        entries: n,
+    }
 }

@@ -1,20 +1,7 @@
 -- What the code knows of a header and of a set that were read.
 use Prim.Native.Nat.{_≤_, _<_, ℕ, _+_, _*_}
-use mathlib.Core.Path.{_≡_}
-use lib.ListN.{length}
 use Rattle.standard_rules.specs.declared.Header.{Header}
 use Rattle.standard_rules.specs.declared.Set.{Set}
-
--- what holds of the numbers of a header; the last four where it is not refused
-pub record HeaderBounds (h : Header) : Type 0 where
-  pub size-most : h .size ≤ 1048576
-  pub count-most : h .count ≤ 4096
-  pub length-most : h .length ≤ 65536
-  pub sets-most : h .sets ≤ 16
-  pub size-least : h .refused ≡ 0 → 16 ≤ h .size
-  pub length-least : h .refused ≡ 0 → 1 ≤ h .length
-  pub sets-least : h .refused ≡ 0 → 1 ≤ h .sets
-  pub offset-least : h .refused ≡ 0 → (h .offset ≡ 0 → ⊥) → 8 ≤ h .offset
 
 -- the numbers without a range are uInts
 pub record HeaderWords (h : Header) : Type 0 where

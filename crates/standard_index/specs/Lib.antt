@@ -1,2 +1,3 @@
 -- Definitions that only serve the code of this crate.
 pub mod Bounds
+pub mod Rows

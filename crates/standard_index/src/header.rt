@@ -1,8 +1,8 @@
 // The header of a StandardStMan file (RULES.md 5.1; Note 260, 3.4.2: Header).
 ghost use mathlib.Core.Path.{_≡_};
 ghost use Prim.Native.Nat.{_<_};
-ghost use Rattle.standard_rules.specs.Header.{bucketFieldsAt, offsetFits, indexFieldsAt, headed, headerAt};
-ghost use Rattle.standard_index.specs.Bounds.{HeaderBounds, HeaderWords};
+ghost use Rattle.standard_rules.specs.Header.{bucketFieldsAt, offsetFits, indexFieldsAt, headed, headerAt, HeaderBounds};
+ghost use Rattle.standard_index.specs.Bounds.{HeaderWords};
 use aipsio_rules::Cursor;
 use bytes_at::Width;
 use standard_rules::BucketFields;

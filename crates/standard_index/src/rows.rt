@@ -1,10 +1,11 @@
-// The last rows of a set in the index text: the map's rule for them, and the entry of a row (RULES.md 5.6 and 5.8).
+// The last rows of a set in the index text: the map's rule for them, and the entry of a row (RULES.md 5.6, 5.8 and 5.9).
 ghost use Prim.Native.Nat.{_+_, _*_, _≤_, _<_, _-_};
 ghost use lib.ListN.{length};
 ghost use mathlib.Core.Path.{_≡_};
 ghost use Rattle.bytes_at.specs.Number.{bytesOf, numberIn, numbersAt};
 ghost use Rattle.standard_rules.specs.Map.{covers};
-ghost use Rattle.standard_rules.specs.Halving.{halvingOf, firstRowIn};
+ghost use Rattle.standard_rules.specs.Looks.{halvingOf, bitLength};
+ghost use Rattle.standard_index.specs.Rows.{firstRowIn};
 use bytes_at::Width;
 use standard_rules::Entry;
 
@@ -52,16 +53,28 @@ pub fn rows_fit(
     from == rows
 }
 
-// The entry of a row among n entries, by halving.
+// The fewest bits that hold a number.
+pub fn bit_length(n: usize) -> usize
+    ensures { λ r. ⌜ r ≡ bitLength n ⌝ }
+{
+    let zeros = usize::leading_zeros(n);
+    (64 - zeros) as usize
+}
+
+// The entry of a row among n entries, by halving. The bit length of the entry count less 1 bounds the search.
 pub fn find_entry(text: &[u8], at: usize, n: usize, row: usize, big: bool, width: Width) -> Entry
     requires { ⌜ (0 < n) × (at + n * bytesOf width ≤ length (now text)) ⌝ }
     ensures { λ r. ⌜ r ≡ halvingOf (numbersAt big (bytesOf width) (now (text .entry)) at n) row ⌝ }
-    ensures known { λ r. ⌜ r .at < n ⌝ }
+    ensures known { λ r. ⌜ (r .at < n) × (r .looks ≤ bitLength (n - 1)) ⌝ }
 {
+    let most = bit_length(n - 1);
     let mut first = 0;
     let mut last = n - 1;
     let mut looks = 0;
-    while first < last {
+    while looks < most {
+        if last <= first {
+            return Entry { at: first, looks };
+        }
         let middle = first + (last - first) / 2;
         let found = last_row(text, at, middle, big, width);
         looks += 1;

@@ -1,5 +1,7 @@
 -- Laws that the proofs cite.
 pub mod Entries
+pub mod Halving
+pub mod HeaderBounds
 pub mod DataBuckets
 pub mod Accepting
 pub mod Fitting
@@ -7,3 +9,4 @@ pub mod Places
 pub mod Columns
 pub mod Counted
 pub mod Exactly
+pub mod Looks

@@ -1,7 +1,8 @@
 -- RULES.md 5.1, and Note 260, 3.4.2, Header: its fields in file order.
-use Prim.Native.Nat.{ℕ, _+_, _*_}
+use Prim.Native.Nat.{ℕ, _+_, _*_, _≤_}
 use mathlib.Core.Bool.{cond, Bool, true}
 use lib.Dec.{leb, eqb}
+use mathlib.Core.Path.{_≡_}
 use mathlib.Core.List.{List}
 use lib.ListN.{length}
 use Rattle.bytes_at.specs.Bytes.{bytes}
@@ -107,3 +108,14 @@ headerAt s big = headerIn s true big
 -- "Bucket b starts at 512 + b x bucket size."
 abbrev pub bucketStart : ℕ → ℕ → ℕ
 bucketStart size b = 512 + b * size
+
+-- What holds of the numbers of every header, refused or not; the last four facts where it is not refused.
+pub record HeaderBounds (h : Header) : Type 0 where
+  pub size-most : h .size ≤ 1048576
+  pub count-most : h .count ≤ 4096
+  pub length-most : h .length ≤ 65536
+  pub sets-most : h .sets ≤ 16
+  pub size-least : h .refused ≡ 0 → 16 ≤ h .size
+  pub length-least : h .refused ≡ 0 → 1 ≤ h .length
+  pub sets-least : h .refused ≡ 0 → 1 ≤ h .sets
+  pub offset-least : h .refused ≡ 0 → (h .offset ≡ 0 → ⊥) → 8 ≤ h .offset

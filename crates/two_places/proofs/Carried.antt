@@ -19,11 +19,11 @@ use Rattle.two_places.specs.Demand.{Demanded, PlacedThere}
 
 -- whether an answer is a place
 abbrev isPlace : Placed → ℕ
-isPlace (At first count) = 1
+isPlace (At first count looks entries) = 1
 isPlace (Refused n) = 0
 
 -- an answer that is a place
-module _ (a : Answer) (first count : ℕ) (h : placedOf a ≡ At first count) where
+module _ (a : Answer) (first count looks entries : ℕ) (h : placedOf a ≡ At first count looks entries) where
   unrefused : a .refused ≡ 0
   unfolding placedOf
   unrefused = elim (ℕ-discrete (a .refused) 0) [
@@ -31,10 +31,10 @@ module _ (a : Answer) (first count : ℕ) (h : placedOf a ≡ At first count) wh
     | no n ↦ absurd (refusal (rw (ne-eqb (a .refused) 0 n) at h))
   ]
     where
-      refusal : Refused (a .refused) ≡ At first count → ⊥
+      refusal : Refused (a .refused) ≡ At first count looks entries → ⊥
       refusal e = let z : _≡_ {A = ℕ} 0 1 = ap isPlace e in omega arith
 
-  at-place : At (a .first) (a .count) ≡ At first count
+  at-place : At (a .first) (a .count) (a .looks) (a .entries) ≡ At first count looks entries
   unfolding placedOf
   at-place = rw (eq-eqb (a .refused) 0 unrefused) at h
 
@@ -46,16 +46,16 @@ pub carried : (t f : List ℕ) (l l′ row row′ : ℕ) (a a′ : Asked) {p p�
     → p′ ≡ placedOf (answerOf t f (Place row′ a′) l′)
     → Demanded t f row a p row′ a′ p′
 carried t f l l′ row row′ a a′ e e′ = record {
-  holds = λ sequence first count first′ count′ i k k′ h h′.
-      rw (← (same-bits _ first count (sym e ∙ h)), ← (same-bits _ first′ count′ (sym e′ ∙ h′)))
-      (places t f sequence l l′ row row′ a a′ i k k′ (unrefused _ first count (sym e ∙ h)) (unrefused _ first′ count′ (sym e′ ∙ h′)));
+  holds = λ sequence first count looks entries first′ count′ looks′ entries′ i k k′ h h′.
+      rw (← (same-bits _ first count looks entries (sym e ∙ h)), ← (same-bits _ first′ count′ looks′ entries′ (sym e′ ∙ h′)))
+      (places t f sequence l l′ row row′ a a′ i k k′ (unrefused _ first count looks entries (sym e ∙ h)) (unrefused _ first′ count′ looks′ entries′ (sym e′ ∙ h′)));
 }
 
 -- and the same of one place in IncrementalStMan
 pub carried-there : (t f : List ℕ) (l row : ℕ) (a : Asked) {p : Placed} → p ≡ placedOf (answerOf t f (Place row a) l) → PlacedThere t f row a p
 carried-there t f l row a e = record {
-  safe = λ sequence first count i k h.
-      rw (← (same-bits _ first count (sym e ∙ h))) (places-there t f sequence l row a i k (unrefused _ first count (sym e ∙ h)));
+  safe = λ sequence first count looks entries i k h.
+      rw (← (same-bits _ first count looks entries (sym e ∙ h))) (places-there t f sequence l row a i k (unrefused _ first count looks entries (sym e ∙ h)));
 }
 
 -- `place_by`: an arm's call is the question that is asked

@@ -12,9 +12,10 @@ use Rattle.lookup_rules.specs.declared.Placed.the-variants.{At}
 use Rattle.lookup_rules.specs.Questions.{columnOf}
 use Rattle.lookup_rules.specs.Demand.{carries, inStandard, inIncremental, SafeThere}
 
--- where both are placed, both columns carry the sequence number, and the manager is a StandardStMan
+-- where both are placed, whatever the looks, both columns carry the sequence number, and the manager is a StandardStMan
 pub record Demanded (t f : List ℕ) (row : ℕ) (a : Asked) (p : Placed) (row′ : ℕ) (a′ : Asked) (p′ : Placed) : Type 0 where
-  pub holds : (sequence first count first′ count′ : ℕ) → inStandard t sequence → carries t a sequence → carries t a′ sequence → p ≡ At first count → p′ ≡ At first′ count′
+  pub holds : (sequence first count looks entries first′ count′ looks′ entries′ : ℕ) → inStandard t sequence → carries t a sequence → carries t a′ sequence
+      → p ≡ At first count looks entries → p′ ≡ At first′ count′ looks′ entries′
       → Demand3 (mapOf (describedAs t) sequence f)
       (record { first = first; count = count })
       (record { first = first′; count = count′ })
@@ -25,5 +26,5 @@ pub record Demanded (t f : List ℕ) (row : ℕ) (a : Asked) (p : Placed) (row�
 
 -- where a cell of an IncrementalStMan file is placed
 pub record PlacedThere (t f : List ℕ) (row : ℕ) (a : Asked) (p : Placed) : Type 0 where
-  pub safe : (sequence first count : ℕ) → inIncremental t sequence → carries t a sequence → p ≡ At first count
+  pub safe : (sequence first count looks entries : ℕ) → inIncremental t sequence → carries t a sequence → p ≡ At first count looks entries
       → SafeThere t f (record { first = first; count = count }) row

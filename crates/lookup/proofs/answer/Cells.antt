@@ -1,5 +1,5 @@
--- The cell that a question asks for: where nothing is refused, the room shows the column's set, and the first bit found there
--- is the map's.
+-- The cell that a question asks for: where nothing is refused, the room shows the column's set, and the first bit and the looks
+-- found there are the map's.
 -- Assumes nothing.
 use mathlib.Core.Path.{_≡_, refl, sym, ap, _∙_}
 use mathlib.Core.List.{List}
@@ -27,24 +27,28 @@ use Rattle.standard_index.specs.Bounds.{SetInside}
 use Rattle.incremental_rules.specs.Check.{checkedAs as incrementalAs}
 use Rattle.incremental_rules.specs.Place.{placeOf as incrementalPlace}
 use Rattle.incremental_rules.proofs.Places.{checked-there}
-use Rattle.standard.specs.Bit.{bitByHalving}
-use Rattle.standard.proofs.place.Bits.{bit-is, entry-known, some-entry}
-use Rattle.standard.proofs.place.Padded.{bit-same}
+use Rattle.standard_rules.specs.Looks.{Looks, looksOf}
+use Rattle.standard_rules.specs.declared.Entry.{Entry}
+use Rattle.standard.specs.declared.Located.{Located}
+use Rattle.standard.specs.Bit.{byHalving, bitByHalving, locatedBy, noCell}
+use Rattle.standard.proofs.place.Bits.{bit-is, looks-are, entry-known, some-entry}
+use Rattle.standard.proofs.place.Padded.{bit-same, halving-same}
 use Rattle.lookup_rules.specs.declared.Plan.{Plan}
 use Rattle.lookup_rules.specs.declared.Question.{Question}
 use Rattle.lookup_rules.specs.declared.Request.{Request}
 use Rattle.lookup_rules.specs.declared.FileChecked.{FileChecked}
 use Rattle.lookup_rules.specs.declared.Staged.{Staged}
 use Rattle.lookup_rules.specs.declared.Answer.{Answer}
-use Rattle.lookup_rules.specs.Questions.{requestOf, targetOf, ofStandard, fileOf, planFor, stagesOf, placeIn, noPlan, noBits, answered, answerFor, answerOf}
+use Rattle.lookup_rules.specs.Questions.{requestOf, targetOf, ofStandard, fileOf, planFor, stagesOf, placeIn, looksIn, noPlan, noBits, noLooks, answered, answerFor, answerOf}
 use Rattle.lookup_rules.proofs.CellAsked.{Cell, cell-asked, cell-sequence, cell-column, cell-row}
 use Rattle.standard_rules.proofs.Columns.{column-kept, column-same}
 use Rattle.table_rules.proofs.Described.{described}
 use Rattle.lookup_rules.proofs.Files.{file-standard, file-incremental, standard-refused, incremental-refused, target-passed}
 use Rattle.lookup_rules.proofs.Places.{place-standard}
 use Rattle.lookup_rules.proofs.IncrementalPlaces.{place-there}
+use Rattle.lookup_rules.proofs.Looks.{looks-standard, looks-there}
 use Rattle.lookup_rules.proofs.Stages.{check-of, row-passed, stages-sequence, stages-kind, target-column, target-sequence, target-position, target-binding, target-described, stages-plan, stages-set, stages-first}
-use Rattle.lookup.specs.Answering.{Findable, cellBit, answerWith}
+use Rattle.lookup.specs.Answering.{Findable, cellFound, answerWith}
 use Rattle.lookup.proofs.answer.Placing.{set-told, size-told, set-known, set-same, set-covered, set-inside, size-most}
 
 -- a set that lies in a text lies in a longer one
@@ -168,6 +172,13 @@ module _ (t f : List ℕ) (r : Request) (l : ℕ) (z : stagesOf t f r l .refused
         (bit-same text (replicate (l - length text) 0) x _ _ _ row inside (entry-known text x (d .rows) row covered below)
         ∙ bit-is text x (d .rows) row covered below m c map-set)
 
+    looks-is : record { looks = byHalving y (stagesOf t f r l .set) row .looks; entries = stagesOf t f r l .set .entries } ≡ looksOf m row c
+    unfolding padded
+    looks-is =
+        rw (e, set-is)
+        (ap (λ (n : Entry). record { looks = n .looks; entries = x .entries }) (halving-same text (replicate (l - length text) 0) x row inside)
+        ∙ looks-are text x (d .rows) row covered below m c map-set)
+
 -- ---- the same in IncrementalStMan, where the check has found the cell already
 module _ (t f : List ℕ) (r : Request) (l : ℕ) (k : targetOf (describedAs t) r .incremental ≡ true) where
   there-first : stagesOf t f r l .refused ≡ 0 → Cell r
@@ -192,74 +203,91 @@ module _ (t f : List ℕ) (r : Request) (l : ℕ) (k : targetOf (describedAs t) 
   unfolding planFor incrementalPlace _>>=_
   there-count = ap (λ (p : Plan). p .bits) (stages-plan t f r l) ∙ rw (k, target-described (describedAs t) r)
 
--- ---- `cell_bit`
+-- ---- `find_cell`
 module _ (y : List ℕ) (s : Staged) (r : Request) where
-  cell-here : s .refused ≡ 0 → r .cell ≡ true → s .incremental ≡ false
-      → cellBit y s r ≡ bitByHalving y (s .set) (s .plan .size) (s .plan .offset) (s .plan .bits) (r .row)
-  unfolding cellBit
+  abbrev here : Located
+  here = locatedBy y (s .set) (s .plan .size) (s .plan .offset) (s .plan .bits) (r .row)
+
+  abbrev there : Located
+  there = record { first = s .first; looks = 0; entries = 0 }
+
+  cell-here : s .refused ≡ 0 → r .cell ≡ true → s .incremental ≡ false → cellFound y s r ≡ here
+  unfolding cellFound
   cell-here z w k = rw (eq-eqb (s .refused) 0 z, w, k)
 
-  cell-there : s .refused ≡ 0 → r .cell ≡ true → s .incremental ≡ true → cellBit y s r ≡ s .first
-  unfolding cellBit
+  cell-there : s .refused ≡ 0 → r .cell ≡ true → s .incremental ≡ true → cellFound y s r ≡ there
+  unfolding cellFound
   cell-there z w k = rw (eq-eqb (s .refused) 0 z, w, k)
 
-  pub bit-refused : (s .refused ≡ 0 → ⊥) → 0 ≡ cellBit y s r
-  unfolding cellBit
-  bit-refused n = rw (ne-eqb (s .refused) 0 n)
+  pub cell-refused : {x : Located} → x ≡ noCell → (s .refused ≡ 0 → ⊥) → x ≡ cellFound y s r
+  unfolding cellFound
+  cell-refused e n = rw (ne-eqb (s .refused) 0 n) e
 
-  pub bit-none : s .refused ≡ 0 → r .cell ≡ false → 0 ≡ cellBit y s r
-  unfolding cellBit
-  bit-none z n = rw (eq-eqb (s .refused) 0 z, n)
+  pub cell-none : {x : Located} → x ≡ noCell → s .refused ≡ 0 → r .cell ≡ false → x ≡ cellFound y s r
+  unfolding cellFound
+  cell-none e z n = rw (eq-eqb (s .refused) 0 z, n) e
 
   module _ (z : s .refused ≡ 0) (w : r .cell ≡ true) where
-    pub bit-there : s .incremental ≡ true → s .first ≡ cellBit y s r
-    bit-there i = sym (cell-there z w i)
+    pub found-there : s .incremental ≡ true → there ≡ cellFound y s r
+    found-there i = sym (cell-there z w i)
 
     module _ (i : s .incremental ≡ false) (h : s .refused ≡ 0 → r .cell ≡ true → s .incremental ≡ false → Findable y s (r .row)) where
       pub can-find : Findable y s (r .row)
       can-find = h z w i
 
-      pub bit-here : {b : ℕ} → (0 < s .set .entries → b ≡ bitByHalving y (s .set) (s .plan .size) (s .plan .offset) (s .plan .bits) (r .row)) → b ≡ cellBit y s r
-      bit-here f = f (can-find .some) ∙ sym (cell-here z w i)
+      pub found-here : {x : Located} → (0 < s .set .entries → x ≡ here) → x ≡ cellFound y s r
+      found-here f = f (can-find .some) ∙ sym (cell-here z w i)
 
 -- ---- `answer`
-module _ (r : Request) (s : Staged) (first : ℕ) where
-  pub answer-refused : {p : Plan} → p ≡ noPlan → (s .refused ≡ 0 → ⊥) → record { refused = s .refused; size = 0; plan = p; first = 0; count = 0 } ≡ answerWith r s first
+module _ (r : Request) (s : Staged) (x : Located) where
+  pub answer-refused : {p : Plan} → p ≡ noPlan → (s .refused ≡ 0 → ⊥)
+      → record { refused = s .refused; size = 0; plan = p; first = 0; count = 0; looks = 0; entries = 0 } ≡ answerWith r s x
   unfolding answered
   answer-refused e n = rw (ne-eqb (s .refused) 0 n, e)
 
   pub answer-cell : {p : Plan} → s .refused ≡ 0 → r .cell ≡ true → p ≡ cond (r .column) (s .plan) noPlan
-      → record { refused = 0; size = s .plan .size; plan = p; first = first; count = s .plan .bits } ≡ answerWith r s first
+      → record { refused = 0; size = s .plan .size; plan = p; first = x .first; count = s .plan .bits; looks = x .looks; entries = x .entries }
+      ≡ answerWith r s x
   unfolding answered
   answer-cell z k e = rw (eq-eqb (s .refused) 0 z, k, e)
 
   pub answer-none : {p : Plan} → s .refused ≡ 0 → r .cell ≡ false → p ≡ cond (r .column) (s .plan) noPlan
-      → record { refused = 0; size = s .plan .size; plan = p; first = 0; count = 0 } ≡ answerWith r s first
+      → record { refused = 0; size = s .plan .size; plan = p; first = 0; count = 0; looks = 0; entries = 0 } ≡ answerWith r s x
   unfolding answered
   answer-none z k e = rw (eq-eqb (s .refused) 0 z, k, e)
 
 -- ---- the answer, by what the calls of `ask` give
--- where a cell is asked for, and found
-same-cell : (k : Bool) (p p′ n : Bits) → (T k → p ≡ p′) → cond k p n ≡ cond k p′ n
+-- a refusal carries no bits and no looks, nor does a question that asks for no cell
+same-cell : {A : Type 0} (k : Bool) (p p′ n : A) → (T k → p ≡ p′) → cond k p n ≡ cond k p′ n
 same-cell true p p′ n h = h tt
 same-cell false p p′ n h = refl
 
-same-bits : (p : Bits) {first count : ℕ} → first ≡ p .first → count ≡ p .count → record { first = first; count = count } ≡ p
-same-bits p e k = rw (e, k)
+module _ (r : Request) (s : Staged) {p p′ : Bits} {n n′ : Looks} where
+  answered-same : (s .refused ≡ 0 → T (r .cell) → p ≡ p′) → (s .refused ≡ 0 → T (r .cell) → n ≡ n′) → answered r s p n ≡ answered r s p′ n′
+  unfolding answered
+  answered-same h k = elim (ℕ-discrete (s .refused) 0) [
+    | yes e ↦ rw (eq-eqb (s .refused) 0 e, same-cell (r .cell) p p′ noBits (h e), same-cell (r .cell) n n′ noLooks (k e))
+    | no g ↦ rw (ne-eqb (s .refused) 0 g)
+  ]
 
--- a refusal carries no bits, nor does a question that asks for none
-answered-same : (r : Request) (s : Staged) {p p′ : Bits} → (s .refused ≡ 0 → T (r .cell) → p ≡ p′) → answered r s p ≡ answered r s p′
-unfolding answered
-answered-same r s {p} {p′} h = elim (ℕ-discrete (s .refused) 0) [
-  | yes e ↦ rw (eq-eqb (s .refused) 0 e) (ap (λ (k : Bits). record { refused = 0; size = s .plan .size; plan = cond (r .column) (s .plan) noPlan; first = k .first; count = k .count }) (same-cell (r .cell) p p′ noBits (h e)))
-  | no n ↦ rw (ne-eqb (s .refused) 0 n)
-]
+same-bits : {p : Bits} {first count : ℕ} → first ≡ p .first → count ≡ p .count → record { first = first; count = count } ≡ p
+same-bits e k = rw (e, k)
+
+-- the bits and the looks of a cell
+abbrev bitsFound : Located → ℕ → Bits
+bitsFound x count = record { first = x .first; count = count }
+
+abbrev looksFound : Located → Looks
+looksFound x = record { looks = x .looks; entries = x .entries }
 
 module _ (t f : List ℕ) (q : Question) (l : ℕ) {r : Request} (o : r ≡ requestOf q) {s : Staged} {y : List ℕ} (e : s ≡ stagesOf t f r l)
     (h : s .refused ≡ 0 → s .incremental ≡ false → y ≡ padded l (indexTextOf f (headerAt f (describedAs t .big)))) where
-  -- the place of the cell
+  -- the place of the cell, and the search for it
   abbrev place : Bits
   place = placeIn (describedAs t) (s .incremental) (s .sequence) f (r .row) (r .position)
+
+  abbrev looks : Looks
+  looks = looksIn (describedAs t) (s .incremental) (s .sequence) f (r .row) (r .position)
 
   kind : {b : Bool} → s .incremental ≡ b → targetOf (describedAs t) r .incremental ≡ b
   kind k = sym (ap (λ (x : Staged). x .incremental) e ∙ stages-kind t f r l) ∙ k
@@ -274,33 +302,25 @@ module _ (t f : List ℕ) (q : Question) (l : ℕ) {r : Request} (o : r ≡ requ
   pub findable-by : s .plan .offset < 4294967296 → s .plan .bits ≤ 4294967296 → s .refused ≡ 0 → r .cell ≡ true → s .incremental ≡ false → Findable y s (r .row)
   findable-by o n z w k = rw e (findable t f r l (rw e at z) (asked w) (kind k) (h z k) (rw e at o) (rw e at n))
 
-  found-here : s .refused ≡ 0 → r .cell ≡ true → s .incremental ≡ false → cellBit y s r ≡ place .first
-  found-here z w k =
-      cell-here y s r z w k ∙ rw (k, same-sequence, place-standard (describedAs t) _ f (r .row) (r .position)) (rw e (first-is t f r l (rw e at z) (asked w) (kind k) (h z k)))
+  module _ (z : s .refused ≡ 0) (w : r .cell ≡ true) where
+    placed : (b : Bool) → s .incremental ≡ b → bitsFound (cellFound y s r) (s .plan .bits) ≡ place
+    placed false k =
+        rw (cell-here y s r z w k, k, same-sequence, place-standard (describedAs t) _ f (r .row) (r .position))
+        (rw e (same-bits (first-is t f r l (rw e at z) (asked w) (kind k) (h z k)) (bits-is t f r l (rw e at z) (asked w) (kind k))))
+    placed true k =
+        rw (cell-there y s r z w k, k, same-sequence, place-there (describedAs t) _ f (r .row) (r .position))
+        (rw e (same-bits (there-first t f r l (kind k) (rw e at z) (asked w)) (there-count t f r l (kind k))))
 
-  counted-here : s .refused ≡ 0 → r .cell ≡ true → s .incremental ≡ false → s .plan .bits ≡ place .count
-  counted-here z w k =
-      rw (k, same-sequence, place-standard (describedAs t) _ f (r .row) (r .position)) (rw e (bits-is t f r l (rw e at z) (asked w) (kind k)))
+    searched : (b : Bool) → s .incremental ≡ b → looksFound (cellFound y s r) ≡ looks
+    searched false k =
+        rw (cell-here y s r z w k, k, same-sequence, looks-standard (describedAs t) _ f (r .row) (r .position))
+        (rw e (looks-is t f r l (rw e at z) (asked w) (kind k) (h z k)))
+    searched true k = rw (cell-there y s r z w k, k, looks-there (describedAs t) _ f (r .row) (r .position))
 
-  found-there : s .refused ≡ 0 → r .cell ≡ true → s .incremental ≡ true → cellBit y s r ≡ place .first
-  found-there z w k =
-      cell-there y s r z w k ∙ rw (k, same-sequence, place-there (describedAs t) _ f (r .row) (r .position)) (rw e (there-first t f r l (kind k) (rw e at z) (asked w)))
-
-  counted-there : s .refused ≡ 0 → r .cell ≡ true → s .incremental ≡ true → s .plan .bits ≡ place .count
-  counted-there z w k =
-      rw (k, same-sequence, place-there (describedAs t) _ f (r .row) (r .position)) (rw e (there-count t f r l (kind k)))
-
-  found : (b : Bool) → s .incremental ≡ b → s .refused ≡ 0 → r .cell ≡ true → cellBit y s r ≡ place .first
-  found true k z w = found-there z w k
-  found false k z w = found-here z w k
-
-  counted : (b : Bool) → s .incremental ≡ b → s .refused ≡ 0 → r .cell ≡ true → s .plan .bits ≡ place .count
-  counted true k z w = counted-there z w k
-  counted false k z w = counted-here z w k
-
-  pub answer-by : {first : ℕ} {a : Answer} → first ≡ cellBit y s r → a ≡ answerWith r s first → a ≡ answerOf t f q l
+  pub answer-by : {x : Located} {a : Answer} → x ≡ cellFound y s r → a ≡ answerWith r s x → a ≡ answerOf t f q l
   unfolding answerFor
-  answer-by {first} {a} i j =
+  answer-by {x} {a} i j =
       j
-      ∙ answered-same r s (λ z w. same-bits place (i ∙ found (s .incremental) refl z (is-true (r .cell) w)) (counted (s .incremental) refl z (is-true (r .cell) w)))
+      ∙ ap (answerWith r s) i
+      ∙ answered-same r s (λ z w. placed z (is-true (r .cell) w) (s .incremental) refl) (λ z w. searched z (is-true (r .cell) w) (s .incremental) refl)
       ∙ rw (← o, e)

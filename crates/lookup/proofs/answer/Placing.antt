@@ -17,7 +17,7 @@ use Rattle.standard_rules.specs.Index.{noSet, indexAt, indexTextOf}
 use Rattle.standard_index.specs.Bounds.{SetInside}
 use Rattle.standard_index.proofs.text.IndexLaws.{index-inside}
 use Rattle.standard.proofs.Gathering.{sets-length, sets-at}
-use Rattle.standard_index.proofs.header.HeaderLaws.{header-bounds}
+use Rattle.standard_rules.proofs.HeaderBounds.{header-bounds}
 use Rattle.lookup_rules.proofs.Places.{map-fits}
 use Rattle.standard_rules.specs.Check.{refusalWith, checkedWith, refusalOf, checkedAs}
 

@@ -24,7 +24,7 @@ module _ (a : Answer) where
   unfolding plannedOf
   not-planned n = rw (ne-eqb (a .refused) 0 n)
 
-  pub placed-at : a .refused ≡ 0 → At (a .first) (a .count) ≡ placedOf a
+  pub placed-at : a .refused ≡ 0 → At (a .first) (a .count) (a .looks) (a .entries) ≡ placedOf a
   unfolding placedOf
   placed-at z = rw (eq-eqb (a .refused) 0 z)
 

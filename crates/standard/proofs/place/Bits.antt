@@ -1,4 +1,4 @@
--- Sums that fit, and the first bit as the map has it. Assumes nothing.
+-- Sums that fit; the first bit and the looks as the map has them. Assumes nothing.
 use mathlib.Core.Path.{_≡_, sym}
 use mathlib.Core.Bool.{true}
 use mathlib.Core.List.{List}
@@ -12,32 +12,33 @@ use Rattle.standard_rules.specs.Place.{placeOf, entryOf}
 use Rattle.standard_rules.proofs.Entries.{found, covers-end}
 use Rattle.bytes_at.specs.Number.{uintOf, numberIn, numbersAt}
 use Rattle.standard_rules.specs.declared.Entry.{Entry}
-use Rattle.standard_rules.specs.Halving.{firstRowIn, halvingOf}
+use Rattle.standard_rules.specs.Looks.{halvingOf, looksOf}
 use Rattle.bytes_at.proofs.Listed.{numbers-length, number-at}
 use Rattle.standard_index.proofs.rows.Starts.{first-row-is}
-use Rattle.standard_index.proofs.rows.Halving.{search-entry}
+use Rattle.standard_rules.proofs.Halving.{search-entry}
+use Rattle.standard_index.specs.Rows.{firstRowIn}
 use Rattle.standard_rules.specs.declared.Set.{Set}
-use Rattle.standard.specs.Bit.{entryByHalving, bitByHalving}
+use Rattle.standard.specs.Bit.{byHalving, bitByHalving, locatedBy}
 
 -- ---- no sum of a first bit wraps
 pub product : {a b : ℕ} (m n : ℕ) → a ≤ m → b ≤ n → a * b ≤ m * n
 product m n h k = mul-le-mul h k
 
 -- the calls' results are the definition's numbers
-pub bit-by : (text : List ℕ) (s : Set) (size offset bits row : ℕ) {e : Entry} {b r : ℕ}
+pub located : (text : List ℕ) (s : Set) (size offset bits row : ℕ) {e : Entry} {b r : ℕ}
     → e ≡ halvingOf (numbersAt true 4 text (s .lasts) (s .entries)) row
     → b ≡ uintOf true 4 text (s .buckets + e .at * 4)
     → r ≡ row - firstRowIn true 4 text (s .lasts) (e .at)
-    → 8 * (512 + b * size + offset) + r * bits ≡ bitByHalving text s size offset bits row
+    → record { first = 8 * (512 + b * size + offset) + r * bits; looks = e .looks; entries = s .entries } ≡ locatedBy text s size offset bits row
 unfolding bitByHalving
-bit-by text s size offset bits row p q v = rw (q, v, p)
+located text s size offset bits row p q v = rw (q, v, p)
 
 -- ---- in a set whose last rows cover the rows
 module _ (text : List ℕ) (s : Set) (rows row : ℕ) (v : T (covers rows (s .per) 0 (numbersAt true 4 text (s .lasts) (s .entries)))) (h : row < rows) where
   abbrev lasts : List ℕ
   lasts = numbersAt true 4 text (s .lasts) (s .entries)
 
-  same-entry : entryByHalving text s row ≡ entryOf lasts row
+  same-entry : byHalving text s row .at ≡ entryOf lasts row
   same-entry = search-entry rows (s .per) lasts row v h
 
   known : entryOf lasts row < s .entries
@@ -48,7 +49,7 @@ module _ (text : List ℕ) (s : Set) (rows row : ℕ) (v : T (covers rows (s .pe
   pub some-entry : 0 < s .entries
   some-entry = omega (arith, known)
 
-  pub entry-known : entryByHalving text s row < s .entries
+  pub entry-known : byHalving text s row .at < s .entries
   entry-known = omega (arith, same-entry, known)
 
   -- the first bit that the halving rule gives is the map's
@@ -60,3 +61,7 @@ module _ (text : List ℕ) (s : Set) (rows row : ℕ) (v : T (covers rows (s .pe
       let r : firstRowIn true 4 text (s .lasts) (entryOf lasts row) ≡ firstRowOf lasts (entryOf lasts row)
       = first-row-is true 4 text (s .lasts) (s .entries) (entryOf lasts row) (omega (arith, known)) in
       rw (e, same-entry, b, r)
+
+  -- and so are the looks and the entries
+  pub looks-are : (m : Map) (c : ℕ) → setOf m c ≡ mapSet text s → record { looks = byHalving text s row .looks; entries = s .entries } ≡ looksOf m row c
+  looks-are m c e = rw (e, numbers-length true 4 text (s .lasts) (s .entries))

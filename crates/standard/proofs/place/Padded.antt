@@ -7,10 +7,12 @@ use native.Mathlib.Omega.{arith}
 use lib.ListN.{length, length-append, List·getD-append}
 use Rattle.bytes_at.specs.Number.{uintOf, numberIn, numbersAt}
 use Rattle.bytes_at.proofs.Numbers.{big-number}
-use Rattle.standard_rules.specs.Halving.{firstRowIn, halvingOf}
+use Rattle.standard_rules.specs.Looks.{halvingOf}
+use Rattle.standard_rules.specs.declared.Entry.{Entry}
+use Rattle.standard_index.specs.Rows.{firstRowIn}
 use Rattle.standard_rules.specs.declared.Set.{Set}
 use Rattle.standard_index.specs.Bounds.{SetInside}
-use Rattle.standard.specs.Bit.{entryByHalving, bitByHalving}
+use Rattle.standard.specs.Bit.{byHalving, bitByHalving}
 
 module _ (s z : List ℕ) where
   long : length (s ++ z) ≡ length s + length z
@@ -37,15 +39,18 @@ module _ (s z : List ℕ) where
   first-same at n zero h l = refl
   first-same at n (suc k) h l = ap (λ (x : ℕ). x + 1) (number-same at n k (omega arith) l)
 
-  -- the first bit, where the halving rule finds one of the entries
-  pub bit-same : (x : Set) (size offset bits row : ℕ) → SetInside (length s) 4 x → entryByHalving s x row < x .entries
+  -- the halving rule, and the first bit where it finds one of the entries
+  pub halving-same : (x : Set) (row : ℕ) → SetInside (length s) 4 x → byHalving (s ++ z) x row ≡ byHalving s x row
+  halving-same x row i = ap (λ (l : List ℕ). halvingOf l row) (numbers-same (x .lasts) (x .entries) (i .lasts-inside))
+
+  pub bit-same : (x : Set) (size offset bits row : ℕ) → SetInside (length s) 4 x → byHalving s x row .at < x .entries
       → bitByHalving (s ++ z) x size offset bits row ≡ bitByHalving s x size offset bits row
   unfolding bitByHalving
   bit-same x size offset bits row i h =
-      let e : entryByHalving (s ++ z) x row ≡ entryByHalving s x row = ap (λ (l : List ℕ). halvingOf l row .at) (numbers-same (x .lasts) (x .entries) (i .lasts-inside)) in
-      let b : numberIn true 4 (s ++ z) (x .buckets) (entryByHalving (s ++ z) x row) ≡ numberIn true 4 s (x .buckets) (entryByHalving s x row)
-      = ap (λ (k : ℕ). numberIn true 4 (s ++ z) (x .buckets) k) e ∙ number-same (x .buckets) (x .entries) (entryByHalving s x row) h (i .buckets-inside) in
-      let r : firstRowIn true 4 (s ++ z) (x .lasts) (entryByHalving (s ++ z) x row) ≡ firstRowIn true 4 s (x .lasts) (entryByHalving s x row)
-      = ap (λ (k : ℕ). firstRowIn true 4 (s ++ z) (x .lasts) k) e ∙ first-same (x .lasts) (x .entries) (entryByHalving s x row) h (i .lasts-inside) in
-      ap (λ (n : ℕ). 8 * (512 + n * size + offset) + (row - firstRowIn true 4 (s ++ z) (x .lasts) (entryByHalving (s ++ z) x row)) * bits) b
-      ∙ ap (λ (n : ℕ). 8 * (512 + numberIn true 4 s (x .buckets) (entryByHalving s x row) * size + offset) + (row - n) * bits) r
+      let e : byHalving (s ++ z) x row .at ≡ byHalving s x row .at = ap (λ (n : Entry). n .at) (halving-same x row i) in
+      let b : numberIn true 4 (s ++ z) (x .buckets) (byHalving (s ++ z) x row .at) ≡ numberIn true 4 s (x .buckets) (byHalving s x row .at)
+      = ap (λ (k : ℕ). numberIn true 4 (s ++ z) (x .buckets) k) e ∙ number-same (x .buckets) (x .entries) (byHalving s x row .at) h (i .buckets-inside) in
+      let r : firstRowIn true 4 (s ++ z) (x .lasts) (byHalving (s ++ z) x row .at) ≡ firstRowIn true 4 s (x .lasts) (byHalving s x row .at)
+      = ap (λ (k : ℕ). firstRowIn true 4 (s ++ z) (x .lasts) k) e ∙ first-same (x .lasts) (x .entries) (byHalving s x row .at) h (i .lasts-inside) in
+      ap (λ (n : ℕ). 8 * (512 + n * size + offset) + (row - firstRowIn true 4 (s ++ z) (x .lasts) (byHalving (s ++ z) x row .at)) * bits) b
+      ∙ ap (λ (n : ℕ). 8 * (512 + numberIn true 4 s (x .buckets) (byHalving s x row .at) * size + offset) + (row - n) * bits) r

@@ -1,145 +1,28 @@
--- Bounds of the numbers of a header.
+-- The numbers of a header that have no range are uInts.
 -- Assumes nothing.
 use mathlib.Core.Path.{_≡_}
 use mathlib.Core.List.{List}
-use mathlib.Core.Bool.{Bool, true}
-use Prim.Native.Nat.{ℕ, _≤_, _<_, zero-le}
+use mathlib.Core.Bool.{Bool}
+use Prim.Native.Nat.{_<_, ℕ}
 use native.Mathlib.Decide.{ℕ-discrete}
 use native.Mathlib.Omega.{arith}
-use borrow.Author.Tests.{eq-eqb, ne-eqb, leb-true}
-use Rattle.bytes_at.specs.Steps.{_>>=_}
 use Rattle.aipsio_rules.specs.declared.Cursor.{Cursor}
-use Rattle.aipsio_rules.proofs.Kept.{Clean, Keeps, clean-before, uint-reads, ranged-reads, judged-keeps, _⨟_}
-use Rattle.aipsio_rules.proofs.ObjectKept.{closed-keeps}
-use Rattle.aipsio_rules.proofs.Accepted.{judged-passed, ranged-within}
-use Rattle.aipsio_rules.proofs.Bounds.{ranged-le}
 use Rattle.standard_rules.specs.declared.BucketFields.{BucketFields}
 use Rattle.standard_rules.specs.declared.IndexFields.{IndexFields}
 use Rattle.standard_rules.specs.declared.Header.{Header}
-use Rattle.standard_rules.specs.Header.{bucketFieldsAt, offsetFits, indexFieldsAt, headed, headerIn}
-use Rattle.standard_index.specs.Bounds.{HeaderBounds, HeaderWords}
+use Rattle.standard_rules.specs.Header.{headed, headerIn, HeaderBounds}
+use Rattle.standard_rules.proofs.HeaderBounds.{headed-on, headed-off, header-bounds}
+use Rattle.standard_index.specs.Bounds.{HeaderWords}
 
--- the fields on buckets
-pub record BucketBounds (b : BucketFields) : Type 0 where
-  pub size-most : b .size ≤ 1048576
-  pub count-most : b .count ≤ 4096
-  pub size-least : Clean (b .next) → 16 ≤ b .size
-
-pub bucket-bounds : (s : List ℕ) (c : Cursor) (big : Bool) → BucketBounds (bucketFieldsAt s c big)
-unfolding bucketFieldsAt _>>=_
-bucket-bounds s c big = record {
-  size-most = ranged-le s _ 4 16 1048576 3;
-  count-most = ranged-le s _ 4 0 4096 3;
-  size-least = λ h.
-      ranged-within s _ 4 16 1048576 3
-      (clean-before (ranged-reads s _ 4 0 4096 4 .keeps ⨟ uint-reads s _ .keeps ⨟ uint-reads s _ .keeps ⨟ uint-reads s _ .keeps) h) .0;
-}
-
--- the fields on the index
-pub record IndexBounds (i : IndexFields) : Type 0 where
-  pub length-most : i .length ≤ 65536
-  pub sets-most : i .sets ≤ 16
-  pub length-least : Clean (i .next) → 1 ≤ i .length
-  pub sets-least : Clean (i .next) → 1 ≤ i .sets
-  pub offset-least : Clean (i .next) → (i .offset ≡ 0 → ⊥) → 8 ≤ i .offset
-
-offset-some : (offset : ℕ) → offsetFits offset ≡ true → (offset ≡ 0 → ⊥) → 8 ≤ offset
-offset-some offset e h = leb-true 8 offset (rw (ne-eqb offset 0 h) at e)
-
-pub index-bounds : (s : List ℕ) (c : Cursor) → IndexBounds (indexFieldsAt s c)
-unfolding indexFieldsAt _>>=_
-index-bounds s c = record {
-  length-most = ranged-le s _ 4 1 65536 3;
-  sets-most = ranged-le s _ 4 1 16 3;
-  length-least = λ h. ranged-within s _ 4 1 65536 3 (clean-before (ranged-reads s _ 4 1 16 4 .keeps) h) .0;
-  sets-least = λ h. ranged-within s _ 4 1 16 3 h .0;
-  offset-least = λ h.
-      offset-some _
-      (judged-passed _ _ _ 3 (clean-before (uint-reads s _ .keeps ⨟ ranged-reads s _ 4 1 65536 4 .keeps ⨟ ranged-reads s _ 4 1 16 4 .keeps) h) .1);
-}
-
-index-keeps : (s : List ℕ) (c : Cursor) → Keeps c (indexFieldsAt s c .next)
-unfolding indexFieldsAt _>>=_
-index-keeps s c =
-    uint-reads s c .keeps ⨟ uint-reads s _ .keeps ⨟ uint-reads s _ .keeps ⨟ judged-keeps _ _ _ 4 ⨟ uint-reads s _ .keeps ⨟ ranged-reads s _ 4 1 65536 4 .keeps ⨟ ranged-reads s _ 4 1 16 4 .keeps
-
--- the answer: zeros where the cursor is refused
 module _ (c : Cursor) (b : BucketFields) (i : IndexFields) where
-  pub headed-on : Clean c
-      → record {
-        size = b .size;
-        count = b .count;
-        «free_count» = b .«free_count»;
-        «first_free» = b .«first_free»;
-        «index_count» = i .«index_count»;
-        «first_index» = i .«first_index»;
-        offset = i .offset;
-        length = i .length;
-        sets = i .sets;
-        refused = 0;
-      } ≡ headed c b i
-  unfolding headed
-  headed-on h = rw (eq-eqb (c .refused) 0 h)
-
-  pub headed-off : (c .refused ≡ 0 → ⊥)
-      → record {
-        size = 0;
-        count = 0;
-        «free_count» = 0;
-        «first_free» = 0;
-        «index_count» = 0;
-        «first_index» = 0;
-        offset = 0;
-        length = 0;
-        sets = 0;
-        refused = c .refused;
-      } ≡ headed c b i
-  unfolding headed
-  headed-off h = rw (ne-eqb (c .refused) 0 h)
-
-  headed-bounds : (Clean c → Clean (b .next)) → (Clean c → Clean (i .next)) → BucketBounds b → IndexBounds i → HeaderBounds (headed c b i)
-  headed-bounds k l x y =
-      elim (ℕ-discrete (c .refused) 0) [
-        | yes h ↦ rw (← (headed-on h)) (record {
-          size-most = x .size-most;
-          count-most = x .count-most;
-          length-most = y .length-most;
-          sets-most = y .sets-most;
-          size-least = λ e. x .size-least (k h);
-          length-least = λ e. y .length-least (l h);
-          sets-least = λ e. y .sets-least (l h);
-          offset-least = λ e. y .offset-least (l h);
-        })
-        | no h ↦ rw (← (headed-off h)) (record {
-          size-most = zero-le;
-          count-most = zero-le;
-          length-most = zero-le;
-          sets-most = zero-le;
-          size-least = λ e. absurd (h e);
-          length-least = λ e. absurd (h e);
-          sets-least = λ e. absurd (h e);
-          offset-least = λ e. absurd (h e);
-        })
-      ]
-
   pub headed-words : (b .«free_count» < 4294967296) × (b .«first_free» < 4294967296)
       → (i .«index_count» < 4294967296) × (i .«first_index» < 4294967296) × (i .offset < 4294967296)
       → HeaderWords (headed c b i)
   headed-words x y =
       elim (ℕ-discrete (c .refused) 0) [
-        | yes h ↦ rw (← (headed-on h)) (record { free-count = x .0; first-free = x .1; index-count = y .0; first-index = y .1; offset = y .2 })
-        | no h ↦ rw (← (headed-off h)) (record { free-count = omega arith; first-free = omega arith; index-count = omega arith; first-index = omega arith; offset = omega arith })
+        | yes h ↦ rw (← (headed-on c b i h)) (record { free-count = x .0; first-free = x .1; index-count = y .0; first-index = y .1; offset = y .2 })
+        | no h ↦ rw (← (headed-off c b i h)) (record { free-count = omega arith; first-free = omega arith; index-count = omega arith; first-index = omega arith; offset = omega arith })
       ]
-
--- Every header's numbers are in range.
-pub header-bounds : (s : List ℕ) (order : Bool) (big : Bool) → HeaderBounds (headerIn s order big)
-unfolding headerIn _>>=_
-header-bounds s order big =
-    headed-bounds _ _ _
-    (λ h. clean-before (index-keeps s _ ⨟ closed-keeps _ _) h)
-    (λ h. clean-before (closed-keeps _ _) h)
-    (bucket-bounds s _ big)
-    (index-bounds s _)
 
 pub header-answered : (s : List ℕ) (order : Bool) (big : Bool) {h : Header} → h ≡ headerIn s order big → HeaderWords h
     → (h ≡ headerIn s order big) × (HeaderBounds h × HeaderWords h)

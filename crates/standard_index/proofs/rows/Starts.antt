@@ -8,7 +8,7 @@ use native.Mathlib.Numerals.{sub-one}
 use native.Mathlib.Omega.{arith}
 use Rattle.standard_rules.specs.Map.{firstRowOf}
 use Rattle.bytes_at.specs.Number.{numberIn, numbersAt}
-use Rattle.standard_rules.specs.Halving.{firstRowIn}
+use Rattle.standard_index.specs.Rows.{firstRowIn}
 use Rattle.bytes_at.proofs.Listed.{number-at, room-for}
 
 pub first-row-is : (big : Bool) (w : ℕ) (s : List ℕ) (at n k : ℕ) → k ≤ n → firstRowIn big w s at k ≡ firstRowOf (numbersAt big w s at n) k

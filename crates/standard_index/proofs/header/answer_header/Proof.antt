@@ -1,5 +1,5 @@
 -- `standard_index::header::answer_header` meets its contract, on either side of its test.
-use Rattle.standard_index.proofs.header.HeaderLaws.{headed-on, headed-off}
+use Rattle.standard_rules.proofs.HeaderBounds.{headed-on, headed-off}
 use Rattle.standard_index.proofs.header.answer_header.Statement.{statement}
 use Rattle.standard_index.proofs.header.answer_header.Tie as tie
 
