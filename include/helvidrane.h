@@ -38,7 +38,7 @@ extern "C" {
 
 /* The version: here, and nowhere else. */
 #define HV_VERSION_MAJOR 1
-#define HV_VERSION_MINOR 1
+#define HV_VERSION_MINOR 2
 #define HV_VERSION_PATCH 0
 #define HV_IN_QUOTES(major, minor, patch) #major "." #minor "." #patch
 #define HV_QUOTED(major, minor, patch) HV_IN_QUOTES(major, minor, patch)
@@ -154,8 +154,19 @@ enum hv_plan_number {
     HV_PLAN_LEN
 };
 
-/* The numbers of a place, counted in bits from the file's start. Bits count from a byte's lowest. */
-enum hv_place_number { HV_PLACE_FIRST_BIT, HV_PLACE_BIT_COUNT, HV_PLACE_LEN };
+/*
+ * The numbers of a place. First bit and bit count are counted in bits from the file's start; bits count from a byte's lowest.
+ * Looks is how many last-row entries of the index the search for the row looked at, those that the check read not counted, and
+ * entries how many the column's set has. The search halves: looks is 0 for one entry, and at most the bit length of entries - 1,
+ * which is at most 12, since no accepted file has more than 4,095 entries in a set. Both are 0 for IncrementalStMan.
+ */
+enum hv_place_number {
+    HV_PLACE_FIRST_BIT,
+    HV_PLACE_BIT_COUNT,
+    HV_PLACE_LOOKS,
+    HV_PLACE_ENTRIES,
+    HV_PLACE_LEN
+};
 
 /* The numbers of a view, counted in bytes from the file's start. */
 enum hv_view_number { HV_VIEW_START, HV_VIEW_LENGTH, HV_VIEW_LEN };
@@ -202,7 +213,8 @@ enum hv_number hv_plan(const uint8_t *table, size_t table_len, const uint8_t *fi
                        uint8_t *room, size_t room_len, uint64_t *out, size_t out_len);
 
 /*
- * Place: the bits of the file that hold the cell of a row and a column position, after a check of the file.
+ * Place: the bits of the file that hold the cell of a row and a column position, after a check of the file; and how many
+ * last-row entries the search for the row looked at.
  * out: HV_PLACE_LEN numbers. Refusals: those of hv_plan; 9.
  */
 enum hv_number hv_place(const uint8_t *table, size_t table_len, const uint8_t *file, size_t file_len, uint64_t row,

@@ -246,6 +246,7 @@ static void print_cell(const struct answer *answer, const struct question *quest
 
     printf("column \"%s\" row %" PRIu64 " in %s\n", column, question->row, answer->file);
     print_plan(answer->plan);
+    printf("looks %" PRIu64 ", entry count %" PRIu64 "\n", answer->place[HV_PLACE_LOOKS], answer->place[HV_PLACE_ENTRIES]);
     printf("bucket %" PRIu64 ", bytes %" PRIu64 " to %" PRIu64 "\n", bucket_of(answer), bucket_start(answer),
            bucket_start(answer) + answer->plan[HV_PLAN_BUCKET_SIZE] - 1);
     printf("first bit %" PRIu64 ", bit count %" PRIu64 "\n", first, count);
@@ -295,6 +296,8 @@ static void json_place(const struct answer *answer)
     json_known("offset", is_known, plan[HV_PLAN_OFFSET]);
     json_known("rows_per_bucket", is_known, plan[HV_PLAN_ROWS_PER_BUCKET]);
     json_known("bucket_size", is_known, plan[HV_PLAN_BUCKET_SIZE]);
+    json_known("looks", is_known, answer->place[HV_PLACE_LOOKS]);
+    json_known("entries", is_known, answer->place[HV_PLACE_ENTRIES]);
     json_known("bucket", is_known, is_known ? bucket_of(answer) : 0);
     json_known("bucket_start", is_known, is_known ? bucket_start(answer) : 0);
     json_known("first_bit", is_known, answer->place[HV_PLACE_FIRST_BIT]);
@@ -393,9 +396,11 @@ const struct command cell_command = {
     .usage = "[--json] DIR COLUMN ROW",
     .summary = "where a cell is kept, and its bytes",
     .help = "Finds the cell of a column and a row, from 0, in the Casacore table in a directory. Prints the\n"
-            "column's plan; the bucket that holds the cell, and its bytes in the file; the cell's first bit and bit\n"
-            "count, counted from the file's start; and the cell's bytes in hex. Of a Bool column in StandardStMan,\n"
-            "whose cells need not be whole bytes, it prints the bits, first to last; bits count from a byte's lowest.\n"
+            "column's plan; how many last-row entries of the index the search for the row looked at, and how many\n"
+            "the column's set has (both 0 in IncrementalStMan); the bucket that holds the cell, and its bytes in the\n"
+            "file; the cell's first bit and bit count, counted from the file's start; and the cell's bytes in hex.\n"
+            "Of a Bool column in StandardStMan, whose cells need not be whole bytes, it prints the bits, first to\n"
+            "last; bits count from a byte's lowest.\n"
             "COLUMN is the name as 'hv list' prints it between the quotes: \\xNN stands for a byte, \\x5c for a\n"
             "backslash.\n"
             "A refusal prints its number, then the file that it is about and why.\n",

@@ -284,14 +284,14 @@ static void ask_of_cells(void)
 
     for (i = 0; i < 4; i++) {
         const uint64_t *place = cells[i] + 2;
-        const uint64_t first_and_count[] = {place[0], place[1]};
+        const uint64_t whole[] = {place[0], place[1], 1, 2}; /* a look at the first of two last rows, for every row */
         const uint64_t start_and_length[] = {place[0] / 8, place[1] / 8};
         row = cells[i][0];
         number = cells[i][1];
         set_plan(plans[number]);
-        ACCEPTED(PLACE, first_and_count);
-        ACCEPTED(PLACE_PLANNED, first_and_count);
-        long_plans(PLACE_PLANNED, first_and_count, __LINE__);
+        ACCEPTED(PLACE, whole);
+        ACCEPTED(PLACE_PLANNED, whole);
+        long_plans(PLACE_PLANNED, whole, __LINE__);
         if (number == 1) {
             REFUSED(VIEW, HV_REFUSED_BOOL);
             REFUSED(VIEW_PLANNED, HV_REFUSED_BOOL);
@@ -444,7 +444,7 @@ static void ask_of_incremental(const char *samples)
     const uint64_t kinds[] = {HV_STANDARD, HV_INCREMENTAL, HV_OTHER_KIND, HV_OTHER_KIND};
     const uint64_t sequences[] = {0, 1, 2, 4};
     const uint64_t scan_number[] = {4, 1, HV_TYPE_INT, 1, 32, 0, 0, 0, 128};
-    const uint64_t place[] = {6368, 32};
+    const uint64_t place[] = {6368, 32, 0, 0};
     const uint64_t view[] = {796, 4};
     const uint64_t bucket_size[] = {128};
 

@@ -49,6 +49,7 @@ expect 0 "no difference" --min 108000 types , types 1 1000 -- "$model"
 expect 0 "no difference" --min 10000 --each 1..14 standard 1 10000 -- "$model"
 expect 0 "no difference" --min 10000 --each 1..12 incremental 1 10000 -- "$model"
 expect 0 "no difference" --min 5000 --each 1..14 small-file -- "$model"
+expect 0 "no difference" --min 15000 looks -- "$model"
 expect 0 "no difference" --min 10 files-large 1 10 -- "$model"
 
 expect 1 "difference at request" tables 1 3000 -- sh -c "'$model' | sed 's/^refused 7/refused 1/'"
@@ -65,6 +66,12 @@ expect 1 "difference at request" bad -- sh -c "sed 's/+//' | '$model'"
 # A room that is not cleared, or not filled.
 expect 1 "difference at request" standard 1 1000 -- sh -c "'$model' | sed 's/^refused 9 00/refused 9 a5/'"
 expect 1 "difference at request" small-file -- sh -c "'$model' | sed 's/^ok SSM be/ok SSM 00/'"
+# LOOKS: one more, one less than the most, 1 for a single entry, not there, in a view, after a refusal, in IncrementalStMan.
+placed='^(ok [0-9]+ [0-9]+)'
+for change in "s/$placed 2 /\\1 3 /" "s/$placed 12 /\\1 11 /" "s/$placed 0 be/\\1 1 be/" "s/$placed [0-9]+ /\\1 /" \
+    "s/$placed ([^ ]*)\$/\\1 0 \\2/" "s/^refused 9 /refused 9 0 /" "s/$placed 0 (-|0*)\$/\\1 1 \\2/"; do
+    expect 1 "difference at request" looks -- sh -c "'$model' | sed -E '$change'"
+done
 expect 1 "difference at request" incremental 1 1000 -- sh -c "'$model' | sed 's/^refused 11/refused 1/'"
 # The saved request again.
 expect 1 "difference at request 1 " --replay "$saved" -- sh -c "'$model' | sed 's/^refused 11/refused 1/'"
@@ -103,6 +110,8 @@ for set in tables types standard incremental; do
     "$bin/requests" "$set" 1 200 >"$scratch/requests"
     "$bin/requests" "$set" 1 200 | cmp - "$scratch/requests"
 done
+"$bin/requests" looks >"$scratch/requests"
+"$bin/requests" looks | cmp - "$scratch/requests"
 "$bin/requests" sample "$scratch/samples"
 diff -r "$scratch/samples" ../../samples
 

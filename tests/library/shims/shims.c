@@ -95,9 +95,13 @@ static enum hv_number spoilt(struct lent *lent, enum hv_number number)
         /* One refusal is taken for the next. */
         return is("refusal", function) && number == k ? (enum hv_number)(number % HV_REFUSED_BOOL + 1) : number;
     }
-    /* A number of the answer is always 0, or it is cut to 32 bits. */
+    /* A number of the answer is always 0, is one too many, is that of its neighbour, or is cut to 32 bits. */
     if (is("zero", function) && k < written)
         out[k] = 0;
+    if (is("more", function) && k < written)
+        out[k] += 1;
+    if (is("next", function) && k + 1 < written)
+        out[k] = out[k + 1];
     if (is("cut", function) && k < written)
         out[k] = cut(out[k]);
     /* Five numbers of hv_column are 0: the array, the options, the string maximum, the set and the offset. */

@@ -103,8 +103,10 @@ pub const POSITION: usize = 1;
 pub const CHECK: usize = 1;
 /// Position, sequence number, data type, element count, cell bits, set, offset, rows per bucket, bucket size.
 pub const PLAN: usize = 9;
-/// First bit and bit count; or start and length in bytes.
-pub const CELL: usize = 2;
+/// First bit, bit count, looks, entries.
+pub const PLACE: usize = 4;
+/// Start and length in bytes.
+pub const VIEW: usize = 2;
 
 /// A plan has too few numbers.
 pub const SHORT: u64 = 255;
@@ -152,7 +154,8 @@ impl Question<'_> {
             ColumnByName { .. } => POSITION,
             Check { .. } => CHECK,
             Plan { .. } => PLAN,
-            Place { .. } | PlacePlanned { .. } | View { .. } | ViewPlanned { .. } => CELL,
+            Place { .. } | PlacePlanned { .. } => PLACE,
+            View { .. } | ViewPlanned { .. } => VIEW,
         }
     }
 
@@ -220,25 +223,26 @@ pub fn plan(table: &[u8], file: &[u8], position: u64, room: &mut [u8]) -> Result
     Plan { position }.answer(table, file, room)
 }
 
-type Cell = Result<[u64; CELL], u64>;
+type Placed = Result<[u64; PLACE], u64>;
+type Viewed = Result<[u64; VIEW], u64>;
 
-/// A cell's first bit and its bit count.
-pub fn place(table: &[u8], file: &[u8], row: u64, position: u64, room: &mut [u8]) -> Cell {
+/// A cell's first bit and its bit count, the looks of the search for it and the entries of its set.
+pub fn place(table: &[u8], file: &[u8], row: u64, position: u64, room: &mut [u8]) -> Placed {
     Place { row, position }.answer(table, file, room)
 }
 
 /// The same for the plan's column.
-pub fn place_planned(table: &[u8], file: &[u8], row: u64, plan: &[u64; PLAN], room: &mut [u8]) -> Cell {
+pub fn place_planned(table: &[u8], file: &[u8], row: u64, plan: &[u64; PLAN], room: &mut [u8]) -> Placed {
     PlacePlanned { row, plan }.answer(table, file, room)
 }
 
 /// Where the part of the file that holds a cell starts, and its length in bytes.
-pub fn view(table: &[u8], file: &[u8], row: u64, position: u64, room: &mut [u8]) -> Cell {
+pub fn view(table: &[u8], file: &[u8], row: u64, position: u64, room: &mut [u8]) -> Viewed {
     View { row, position }.answer(table, file, room)
 }
 
 /// The same for the plan's column.
-pub fn view_planned(table: &[u8], file: &[u8], row: u64, plan: &[u64; PLAN], room: &mut [u8]) -> Cell {
+pub fn view_planned(table: &[u8], file: &[u8], row: u64, plan: &[u64; PLAN], room: &mut [u8]) -> Viewed {
     ViewPlanned { row, plan }.answer(table, file, room)
 }
 

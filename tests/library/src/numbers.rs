@@ -427,6 +427,17 @@ fn compare(comparison: &mut Comparison, seed: u64, count: u64) -> Result<(), Str
             compared.map_err(|what| format!("above 4 GiB {number}: {what}"))?;
         }
     }
+    // A set with the most entries that there can be: 134 MB, nearly all zero. Of some first and last rows of entries.
+    for endianness in [0, 1] {
+        let mut case = Case::whole(&large_files::most_entries(endianness));
+        let last = case.rows[case.rows.len() - 1];
+        case.rows = case.rows.into_iter().step_by(601).chain([last]).collect();
+        at("4,095 entries", endianness.into(), comparison.file(&case, &mut rng(0)))?;
+        let first = model::numbers::place(&case.table, &case.file, 0, 0, &mut vec![0; case.room]);
+        if first.map(|[.., looks, entries]| [looks, entries]) != Ok([12, 4095]) {
+            return Err("4,095 entries: row 0 is not found after 12 looks".to_string());
+        }
+    }
     for number in 0..count {
         at("tables", number, comparison.table(&sets::case(&mut rng(number)).bytes))?;
     }

@@ -1,7 +1,7 @@
 //! Answers request lines with the proved library. The listing is what the proved program prints; HELVIDRANE_LISTING names it.
 
 use library::fields::{bytes, hex, number, signed};
-use library::{CELL, PLAN};
+use library::{PLACE, PLAN, VIEW};
 use std::fmt::Write as _;
 use std::io::{self, BufRead, BufWriter, Write};
 use std::process::{Command, Stdio};
@@ -92,15 +92,25 @@ fn plan_of(field: &str) -> Option<[u64; PLAN]> {
     field.split(',').map(number).collect::<Option<Vec<u64>>>()?.try_into().ok()
 }
 
-/// Place and View: the question about a row and a position or a plan.
-fn cell<T>(
+/// Place and View: the question about a row and a position or a plan, and the answer in a line.
+fn cell<T, const N: usize>(
     [table, file, row, room]: [&str; 4],
     of: Option<T>,
-    ask: fn(&[u8], &[u8], u64, T, &mut [u8]) -> Result<[u64; CELL], u64>,
+    ask: fn(&[u8], &[u8], u64, T, &mut [u8]) -> Result<[u64; N], u64>,
+    text: fn([u64; N]) -> String,
 ) -> Option<String> {
     let (table, file, row, mut room) = (bytes(table)?, bytes(file)?, number(row)?, lent(room)?);
     let answer = ask(&table, &file, row, of?, &mut room);
-    Some(with_room(answer.map(|[first, count]| format!("{first} {count}")), &room))
+    Some(with_room(answer.map(text), &room))
+}
+
+/// A line does not have the entries.
+fn place_text([first, count, looks, _]: [u64; PLACE]) -> String {
+    format!("{first} {count} {looks}")
+}
+
+fn view_text([start, length]: [u64; VIEW]) -> String {
+    format!("{start} {length}")
 }
 
 fn refused(number: u64) -> String {
@@ -126,13 +136,17 @@ fn answer(program: &str, line: &str) -> io::Result<Option<String>> {
         },
         ["check", table, sequence, file, room] => check(table, sequence, file, room),
         ["plan", table, file, position, room] => plan(table, file, position, room),
-        ["place", table, file, row, position, room] => cell([table, file, row, room], number(position), library::place),
-        ["placeplan", table, file, row, plan, room] => {
-            cell([table, file, row, room], plan_of(plan).as_ref(), library::place_planned)
+        ["place", table, file, row, position, room] => {
+            cell([table, file, row, room], number(position), library::place, place_text)
         }
-        ["view", table, file, row, position, room] => cell([table, file, row, room], number(position), library::view),
+        ["placeplan", table, file, row, plan, room] => {
+            cell([table, file, row, room], plan_of(plan).as_ref(), library::place_planned, place_text)
+        }
+        ["view", table, file, row, position, room] => {
+            cell([table, file, row, room], number(position), library::view, view_text)
+        }
         ["viewplan", table, file, row, plan, room] => {
-            cell([table, file, row, room], plan_of(plan).as_ref(), library::view_planned)
+            cell([table, file, row, room], plan_of(plan).as_ref(), library::view_planned, view_text)
         }
         // A negative number is asked as C passes it, by its 64 bits.
         ["elementbits", field] => signed(field).map(|number| format!("ok {}", library::element_bits(number as u64))),

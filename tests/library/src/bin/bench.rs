@@ -52,6 +52,11 @@ fn description(what: &str, table: &[u8], calls: u32) {
     );
 }
 
+/// The numbers of a place as the model has them.
+fn placed_as([first_bit, bit_count, looks, entries]: [u64; library::PLACE]) -> model::Placed {
+    model::Placed { first_bit, bit_count, looks, entries }
+}
+
 /// The last column of a table, by its name.
 fn column(what: &str, table: &[u8], calls: u32) {
     let described = model::describe(table).expect("an accepted table");
@@ -140,7 +145,7 @@ impl Files {
         let row = rows - 1;
         let ours = library::place_planned(table, file, row, &plan, &mut room);
         let theirs = model::place_by_plan(table, file, row, &expected, &mut other);
-        assert_eq!(ours.ok().map(|[first, count]| (first, count)), theirs.ok(), "{}", self.what);
+        assert_eq!(ours.ok().map(placed_as), theirs.ok(), "{}", self.what);
         compare(
             self.what,
             self.calls,
@@ -171,7 +176,7 @@ impl Files {
         for row in (0..*rows).step_by(1 + *rows as usize / 100) {
             let placed = library::place(table, file, row, *column, &mut room);
             let expected = model::place(table, file, row, *column, &mut other);
-            assert_eq!(placed.ok().map(|[first, count]| (first, count)), expected.ok(), "{} row {row}", self.what);
+            assert_eq!(placed.ok().map(placed_as), expected.ok(), "{} row {row}", self.what);
         }
         // Another row at each call, the same rows for both.
         let rows_in_turn = || {

@@ -62,7 +62,7 @@ fn answer(pair: &Pair, question: &Question) -> String {
         Check => library::check(table, file, 0, &mut room).map(|_| "accepted".to_string()),
         Place { row, column } => position(column)
             .and_then(|position| library::place(table, file, row, position, &mut room))
-            .map(|[first, count]| format!("bits {first} to {}", first + count - 1)),
+            .map(|[first, count, ..]| format!("bits {first} to {}", first + count - 1)),
         View { row, column } => position(column)
             .and_then(|position| library::view(table, file, row, position, &mut room))
             .map(|[start, length]| format!("bytes {start} to {}", start + length - 1)),

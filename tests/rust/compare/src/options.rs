@@ -122,6 +122,12 @@ mod tests {
     }
 
     #[test]
+    fn looks() {
+        assert_eq!(parse("looks -- cat").unwrap().sets, [Set::Looks]);
+        assert!(usage().contains("\n  looks "));
+    }
+
+    #[test]
     fn faulty_lines() {
         for line in [
             "prefixes",
@@ -137,6 +143,7 @@ mod tests {
             "--replay -- cat",
             "standard 1 -- cat",
             "types 1 -- cat",
+            "looks 1 2 -- cat",
         ] {
             assert!(parse(line).is_err(), "{line}");
         }

@@ -13,6 +13,7 @@ pub mod element_bits;
 pub mod hex;
 mod incremental;
 pub mod listing;
+pub mod looks;
 pub mod numbers;
 pub mod question;
 pub mod refusal;
@@ -23,7 +24,7 @@ pub mod table;
 pub use data_type::DataType;
 pub use element_bits::element_bits;
 pub use listing::listing;
-pub use question::{Plan, check, place, place_by_plan, plan, view, view_by_plan};
+pub use question::{Placed, Plan, check, place, place_by_plan, plan, view, view_by_plan};
 pub use request::answer;
 pub use table::{Column, Description, Kind, Manager, column, describe};
 

@@ -1,6 +1,6 @@
 //! The answers as runs of numbers, in the order of include/helvidrane.h.
 
-use crate::question::{self, Plan};
+use crate::question::{self, Placed, Plan};
 use crate::refusal::NO_SUCH;
 use crate::table::{self, Kind, describe};
 use std::ops::Range;
@@ -66,15 +66,15 @@ pub fn plan(table: &[u8], file: &[u8], position: u64, room: &mut [u8]) -> Result
     Ok(question::plan(table, file, position, room)?.numbers())
 }
 
-/// First bit and bit count of a cell.
+/// First bit and bit count of a cell, looks, and entries of its set.
 pub fn place(
     table: &[u8],
     file: &[u8],
     row: u64,
     position: u64,
     room: &mut [u8],
-) -> Result<[u64; 2], u8> {
-    Ok(question::place(table, file, row, position, room)?.into())
+) -> Result<[u64; 4], u8> {
+    question::place(table, file, row, position, room).map(placed)
 }
 
 /// The same for the plan's column.
@@ -84,8 +84,8 @@ pub fn place_planned(
     row: u64,
     plan: [u64; 9],
     room: &mut [u8],
-) -> Result<[u64; 2], u8> {
-    Ok(question::place_by_plan(table, file, row, &Plan::of(plan), room)?.into())
+) -> Result<[u64; 4], u8> {
+    question::place_by_plan(table, file, row, &Plan::of(plan), room).map(placed)
 }
 
 /// Start and length, in bytes, of the part of the file that holds a cell.
@@ -125,6 +125,10 @@ fn at<T>(items: &[T], index: u64) -> Result<&T, u8> {
 fn place_in(table: &[u8], part: &[u8]) -> [u64; 2] {
     let start = part.as_ptr().addr() - table.as_ptr().addr();
     [start as u64, part.len() as u64]
+}
+
+fn placed(placed: Placed) -> [u64; 4] {
+    [placed.first_bit, placed.bit_count, placed.looks, placed.entries]
 }
 
 fn start_and_length(range: Range<usize>) -> [u64; 2] {

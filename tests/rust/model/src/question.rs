@@ -64,6 +64,19 @@ impl Plan {
     }
 }
 
+/// The answer of Place.
+#[derive(Clone, Copy, Debug, PartialEq, Eq)]
+pub struct Placed {
+    /// Counted from the file's start.
+    pub first_bit: u64,
+    pub bit_count: u64,
+    /// How many last rows the search for the row's entry looked at, those of
+    /// the check not counted; 0 in IncrementalStMan, as the next.
+    pub looks: u64,
+    /// How many entries the column's set has.
+    pub entries: u64,
+}
+
 /// Checks the file of the manager with this sequence number; gives its kind.
 pub fn check(table: &[u8], number: u64, file: &[u8], room: &mut [u8]) -> Result<Kind, u8> {
     Ok(check_file(table, number, file, room)?.0)
@@ -91,14 +104,14 @@ pub fn plan(table: &[u8], file: &[u8], position: u64, room: &mut [u8]) -> Result
     ask(table, file, position, room, |asked| Ok(asked.plan()))
 }
 
-/// A cell's first bit, counted from the file's start, and its bit count.
+/// A cell's bits, and the looks of the search for them.
 pub fn place(
     table: &[u8],
     file: &[u8],
     row: u64,
     position: u64,
     room: &mut [u8],
-) -> Result<(u64, u64), u8> {
+) -> Result<Placed, u8> {
     ask(table, file, position, room, |asked| asked.place(row))
 }
 
@@ -109,7 +122,7 @@ pub fn place_by_plan(
     row: u64,
     plan: &Plan,
     room: &mut [u8],
-) -> Result<(u64, u64), u8> {
+) -> Result<Placed, u8> {
     ask(table, file, plan.position, room, |asked| {
         asked.expect_plan(plan)?;
         asked.place(row)
@@ -274,29 +287,32 @@ impl Asked<'_> {
         Ok(())
     }
 
-    fn place(&self, row: u64) -> Result<(u64, u64), u8> {
+    fn place(&self, row: u64) -> Result<Placed, u8> {
         if row >= self.description.rows.into() {
             return Err(NO_ROW);
         }
         let row = row as u32;
-        let first_bit = match &self.file {
-            File::Standard(file) => file.first_bit(self.column, row),
+        let set = self.column.set;
+        let (first_bit, looks, entries) = match &self.file {
+            File::Standard(file) => {
+                (file.first_bit(self.column, row), file.looks(set, row), file.entries(set))
+            }
             File::Incremental(file) => {
                 let earlier = &self.description.columns[..self.position];
                 let manager = self.column.manager;
                 let before = earlier.iter().filter(|column| column.manager == manager).count();
-                file.first_bit(before, row)
+                (file.first_bit(before, row), 0, 0)
             }
         };
-        Ok((first_bit, self.cell_bits()))
+        Ok(Placed { first_bit, bit_count: self.cell_bits(), looks, entries })
     }
 
     fn view(&self, row: u64) -> Result<Range<usize>, u8> {
-        let (first_bit, bits) = self.place(row)?;
+        let Placed { first_bit, bit_count, .. } = self.place(row)?;
         if matches!(self.file, File::Standard(_)) && self.column.data_type == DataType::Bool {
             return Err(BOOL_VIEW);
         }
         let start = (first_bit / 8) as usize;
-        Ok(start..start + (bits / 8) as usize)
+        Ok(start..start + (bit_count / 8) as usize)
     }
 }

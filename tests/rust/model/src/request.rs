@@ -1,7 +1,7 @@
 //! Answers to request lines: one question a line, its fields separated by one
 //! space, bytes in lower-case hex, numbers in decimal digits.
 
-use crate::question::{self, Plan};
+use crate::question::{self, Placed, Plan};
 use crate::table::{Description, Kind, column, describe};
 use crate::{element_bits, hex, listing};
 use std::fmt::Write;
@@ -107,8 +107,9 @@ fn kind_name(kind: Kind) -> String {
     .to_string()
 }
 
-fn place_text((first_bit, bits): (u64, u64)) -> String {
-    format!("{first_bit} {bits}")
+/// The entries of a set are no part of a line.
+fn place_text(placed: Placed) -> String {
+    format!("{} {} {}", placed.first_bit, placed.bit_count, placed.looks)
 }
 
 /// A view's start in the file and its length.

@@ -3,6 +3,7 @@
 
 use crate::aipsio::{Numbers, Reader};
 use crate::buckets::{BucketSet, Buckets, HeaderStart, header};
+use crate::looks;
 use crate::refusal::{OUT_OF_RANGE, SHORT_ROOM, WRONG_CHAIN, WRONG_MAP};
 use crate::table::{Column, Description};
 
@@ -34,6 +35,13 @@ struct Index<'a> {
     columns: i32,
     last_rows: Numbers<'a>,
     buckets: Numbers<'a>,
+}
+
+impl Index<'_> {
+    /// The first entry whose last row is not below the row.
+    fn entry(&self, row: u32) -> usize {
+        self.last_rows.partition_point(|last| u32::from_be_bytes(*last) < row)
+    }
 }
 
 /// A file that was checked.
@@ -130,11 +138,25 @@ impl<'a> StandardFile<'a> {
         self.indices[set as usize].rows_per_bucket
     }
 
+    /// How many entries a set has.
+    pub fn entries(&self, set: u32) -> u64 {
+        self.indices[set as usize].last_rows.len() as u64
+    }
+
+    /// How many last rows of a set the search for a row looks at; the row is
+    /// one of the table's.
+    pub fn looks(&self, set: u32, row: u32) -> u64 {
+        let index = self.indices[set as usize];
+        let last_row = |entry: usize| u32::from_be_bytes(index.last_rows[entry]);
+        let search = looks::search(index.last_rows.len(), last_row, row);
+        debug_assert_eq!(search.entry, index.entry(row));
+        search.looks
+    }
+
     /// The first bit of a cell; the row is one of the table's.
     pub fn first_bit(&self, column: &Column<'_>, row: u32) -> u64 {
         let index = self.indices[column.set as usize];
-        // The first entry whose last row is not below the row.
-        let entry = index.last_rows.partition_point(|last| u32::from_be_bytes(*last) < row);
+        let entry = index.entry(row);
         let first_row = match entry.checked_sub(1) {
             Some(before) => u32::from_be_bytes(index.last_rows[before]) + 1,
             None => 0,

@@ -4,7 +4,7 @@ mod common;
 
 use common::{Column, FLAG, SCAN, TIME, object, small_table, table, uint, uints};
 use model::{
-    Kind, Plan, answer, check, hex, numbers, place, place_by_plan, plan, view, view_by_plan,
+    Kind, Placed, Plan, answer, check, hex, numbers, place, place_by_plan, plan, view, view_by_plan,
 };
 
 /// The header's numbers after its Bool.
@@ -82,8 +82,14 @@ fn small_file() -> Vec<u8> {
     file_of(header(HEADER), &small_text())
 }
 
+/// A place in the small file: its set has two entries, of which the search
+/// looks at the first.
+fn placed(first_bit: u64, bit_count: u64) -> Result<Placed, u8> {
+    Ok(Placed { first_bit, bit_count, looks: 1, entries: 2 })
+}
+
 /// The answers of these questions about the small file.
-fn small_place(row: u64, position: u64) -> Result<(u64, u64), u8> {
+fn small_place(row: u64, position: u64) -> Result<Placed, u8> {
     place(&small_table(), &small_file(), row, position, &mut [0xA5; 134])
 }
 
@@ -110,7 +116,7 @@ fn the_small_file_is_accepted() {
 #[test]
 fn case_a() {
     // TIME row 5 is bytes 537 to 544.
-    assert_eq!(small_place(5, 2), Ok((8 * 537, 64)));
+    assert_eq!(small_place(5, 2), placed(8 * 537, 64));
     let file = small_file();
     let part = view(&small_table(), &file, 5, 2, &mut [0; 134]).unwrap();
     assert_eq!(part.as_ptr_range(), file[537..=544].as_ptr_range());
@@ -119,19 +125,19 @@ fn case_a() {
 #[test]
 fn case_b() {
     // TIME row 2 begins at byte 640 + 17 + 16 = 673, in bucket 2.
-    assert_eq!(small_place(2, 2), Ok((8 * 673, 64)));
+    assert_eq!(small_place(2, 2), placed(8 * 673, 64));
 }
 
 #[test]
 fn case_c() {
     // FLAG row 5 is bit 4,225.
-    assert_eq!(small_place(5, 1), Ok((4225, 1)));
+    assert_eq!(small_place(5, 1), placed(4225, 1));
 }
 
 #[test]
 fn case_d() {
     // SCAN row 6 begins at byte 520.
-    assert_eq!(small_place(6, 0), Ok((8 * 520, 32)));
+    assert_eq!(small_place(6, 0), placed(8 * 520, 32));
 }
 
 #[test]
@@ -195,7 +201,8 @@ fn case_l() {
     let text = index_text(1, &[1], &[0]);
     let file = file_of(header(Header { index_length: 126, ..HEADER }), &text);
     let mut room = [0; 126];
-    assert_eq!(place(&table, &file, 1, 0, &mut room), Ok((4104, 8)));
+    let bools = Placed { first_bit: 4104, bit_count: 8, looks: 0, entries: 1 };
+    assert_eq!(place(&table, &file, 1, 0, &mut room), Ok(bools));
     assert_eq!(room[..], text);
     assert_eq!(view(&table, &file, 1, 0, &mut room), Err(14));
 }
@@ -233,7 +240,7 @@ fn plans() {
     assert_eq!(plan(&table, &file, 2, room), Ok(fresh));
     assert_eq!(plan(&table, &file, 3, room), Err(8));
     assert_eq!(plan(&table, &file, 1 << 32, room), Err(8));
-    assert_eq!(place_by_plan(&table, &file, 5, &fresh, room), Ok((8 * 537, 64)));
+    assert_eq!(place_by_plan(&table, &file, 5, &fresh, room), placed(8 * 537, 64));
     assert_eq!(view_by_plan(&table, &file, 5, &fresh, room), Ok(&file[537..545]));
     // A stale plan comes before the row.
     let stale = Plan { manager: 1, ..fresh };
@@ -254,8 +261,8 @@ fn answers_in_numbers() {
     assert_eq!(room, &[0; 134]);
     let fresh = [2, 0, 8, 1, 64, 0, 17, 4, 64];
     assert_eq!(numbers::plan(&table, &file, 2, room), Ok(fresh));
-    assert_eq!(numbers::place(&table, &file, 5, 2, room), Ok([8 * 537, 64]));
-    assert_eq!(numbers::place_planned(&table, &file, 5, fresh, room), Ok([8 * 537, 64]));
+    assert_eq!(numbers::place(&table, &file, 5, 2, room), Ok([8 * 537, 64, 1, 2]));
+    assert_eq!(numbers::place_planned(&table, &file, 5, fresh, room), Ok([8 * 537, 64, 1, 2]));
     assert_eq!(numbers::view(&table, &file, 5, 2, room), Ok([537, 8]));
     assert_eq!(numbers::view_planned(&table, &file, 5, fresh, room), Ok([537, 8]));
     // Each number of a plan stands for its own field.
@@ -309,10 +316,10 @@ fn lines() {
         answer(&format!("plan {table} {file} 1 134")),
         format!("ok 1,0,0,1,1,0,16,4,64 {text}")
     );
-    assert_eq!(answer(&format!("place {table} {file} 5 2 134")), format!("ok 4296 64 {text}"));
+    assert_eq!(answer(&format!("place {table} {file} 5 2 134")), format!("ok 4296 64 1 {text}"));
     assert_eq!(
         answer(&format!("placeplan {table} {file} 5 1,0,0,1,1,0,16,4,64 134")),
-        format!("ok 4225 1 {text}")
+        format!("ok 4225 1 1 {text}")
     );
     assert_eq!(
         answer(&format!("placeplan {table} {file} 5 1,0,0,1,1,0,16,4,65 1")),

@@ -49,6 +49,9 @@ pub trait BucketFile: Clone {
     fn plan(&self, table: &Table, position: usize) -> [u64; 9];
     /// The first bit and bit count of a cell of one of the manager's columns.
     fn place(&self, table: &Table, position: usize, row: u32) -> (u64, u64);
+    /// How many last rows the search for that cell looks at, and how many
+    /// entries there are to look at; none in IncrementalStMan.
+    fn looks(&self, table: &Table, position: usize, row: u32) -> [u64; 2];
 }
 
 /// A Block of numbers.

@@ -199,4 +199,8 @@ impl BucketFile for IncrementalFile {
         let byte = place.expect("some value is at or before the row") + u64::from(DATA_START);
         (8 * byte, 8 * cells::extent(column, 1))
     }
+
+    fn looks(&self, _: &Table, _: usize, _: u32) -> [u64; 2] {
+        [0; 2]
+    }
 }

@@ -140,6 +140,30 @@ pub fn large_bucket(rng: &mut Rng, variant: u64) -> Subject<StandardFile> {
     Subject { table, number: 0, file }
 }
 
+/// StandardStMan: a set of 4,095 entries, the most there can be, since the
+/// index needs a bucket; it is just large enough for the text. They hold one
+/// row to 100 of a bucket's 100.
+pub fn most_entries(endianness: u32) -> Subject<StandardFile> {
+    let rows_per_bucket = 100;
+    let parts: Vec<u32> = (1..BUCKETS).map(|entry| 1 + entry * entry % 101 % 100).collect();
+    let rows = parts.iter().sum();
+    let mut columns = Vec::new();
+    let mut offset = 0;
+    for data_type in [INT, BOOL, DOUBLE, UCHAR] {
+        let column = Column::scalar(data_type, "").at(0, offset);
+        offset += cells::extent(&column, rows_per_bucket) as u32;
+        columns.push(column);
+    }
+    let table = lean::bare(rows, endianness, columns, vec![Manager::new("StandardStMan", 3)]);
+    let mut index = Index::new(rows_per_bucket, 4, &standard::generate::entries(&parts));
+    // In falling order, without the index's.
+    index.buckets.elements = (0..BUCKETS).rev().filter(|bucket| *bucket != INDEX_BUCKET).collect();
+    let buckets = Buckets::new("StandardStMan", 3, endianness, LARGEST, BUCKETS);
+    let mut file = StandardFile::new(buckets, vec![INDEX_BUCKET], vec![index]);
+    file.buckets.size = (LINKS + file.text().bytes.len()) as u32;
+    of_manager_3(table, file)
+}
+
 /// Buckets from the first to the last, of which the last 512 bytes are above
 /// 4 GiB, and the index's.
 const SPREAD: [u32; 8] = [BUCKETS - 1, 0, 511, 512, 2048, 513, 4000, BUCKETS - 2];
@@ -267,5 +291,11 @@ mod tests {
             assert_eq!(subject.file.encode().len(), 512 + 4096 * 72);
             assert_eq!(incremental(rng).file.buckets.count, 4096);
         }
+        let subject = most_entries(1);
+        let index = &subject.file.indices[0];
+        assert_eq!(index.buckets.elements.len(), 4095);
+        assert_eq!(subject.file.text().bytes.len(), 32_878);
+        assert_eq!(subject.file.encode().len(), 134_701_568);
+        assert_eq!(subject.file.looks(&subject.table, 0, 0), [12, 4095]);
     }
 }

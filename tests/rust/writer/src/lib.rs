@@ -17,6 +17,7 @@ pub mod hex;
 pub mod incremental;
 pub mod large_files;
 pub mod lean;
+pub mod looks;
 pub mod objects;
 pub mod questions;
 pub mod record;

@@ -6,6 +6,7 @@ use crate::file_cases;
 use crate::generate;
 use crate::hex::hex;
 use crate::large_files;
+use crate::looks;
 use crate::rng::Rng;
 use crate::samples;
 use crate::small_file;
@@ -26,6 +27,7 @@ standard SEED COUNT
                    generated questions about good and faulty StandardStMan files
 incremental SEED COUNT
                    the same about IncrementalStMan files
+looks              Place in good files whose sets have 1 to 3,900 entries
 files-large [SEED COUNT]
                    files of 4,096 buckets, or with the largest buckets
 small-file         the small file of RULES.md 11, its cases and variants of them";
@@ -41,6 +43,7 @@ pub enum Set {
     Bad,
     Standard { seed: u64, count: u64 },
     Incremental { seed: u64, count: u64 },
+    Looks,
     FilesLarge { seed: u64, count: u64 },
     SmallFile,
 }
@@ -68,6 +71,7 @@ impl Set {
             ["incremental", seed, count] => {
                 Self::Incremental { seed: number(seed)?, count: number(count)? }
             }
+            ["looks"] => Self::Looks,
             ["files-large"] => Self::FilesLarge { seed: 1, count: 60 },
             ["files-large", seed, count] => {
                 Self::FilesLarge { seed: number(seed)?, count: number(count)? }
@@ -109,6 +113,7 @@ impl Set {
                 let rng = &mut Rng::new(seed, number);
                 file_cases::incremental(rng).question(rng)
             })),
+            Self::Looks => Box::new(looks::lines()),
             Self::FilesLarge { seed, count } => Box::new((0..count).map(move |number| {
                 let rng = &mut Rng::new(seed, number);
                 large_files::case(rng, number).question(rng)

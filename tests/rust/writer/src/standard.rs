@@ -261,4 +261,42 @@ impl BucketFile for StandardFile {
         }
         panic!("row {row} is in no bucket")
     }
+
+    fn looks(&self, table: &Table, position: usize, row: u32) -> [u64; 2] {
+        let set = table.columns()[position].info.set;
+        let last_rows = &self.indices[set as usize].last_rows.elements;
+        let entry = last_rows.iter().filter(|last| **last < row).count();
+        [looks(last_rows.len(), entry), last_rows.len() as u64]
+    }
+}
+
+/// The looks that lead to an entry, by its number alone. The middle one of
+/// `count` entries is the last of their first half, which has one more than the
+/// second if they are odd; one look decides between the halves (RULES.md 5.9).
+fn looks(count: usize, entry: usize) -> u64 {
+    if count == 1 {
+        return 0;
+    }
+    let half = count.div_ceil(2);
+    match entry.checked_sub(half) {
+        None => 1 + looks(half, entry),
+        Some(entry) => 1 + looks(count - half, entry),
+    }
+}
+
+#[cfg(test)]
+mod tests {
+    use super::*;
+
+    #[test]
+    fn looks_by_hand() {
+        let all = |count| (0..count).map(|entry| looks(count, entry)).collect::<Vec<_>>();
+        assert_eq!(all(1), [0]);
+        assert_eq!(all(2), [1, 1]);
+        assert_eq!(all(3), [2, 2, 1]);
+        assert_eq!(all(4), [2, 2, 2, 2]);
+        assert_eq!(all(5), [3, 3, 2, 2, 2]);
+        assert_eq!(all(6), [3, 3, 2, 3, 3, 2]);
+        assert_eq!(all(7), [3, 3, 3, 3, 3, 3, 2]);
+    }
 }

@@ -1,12 +1,13 @@
 //! What the writer expects of each file it makes, against the model.
 
+use model::Placed;
 use writer::bucket_faults::{Fault, two_faults};
 use writer::buckets::{BucketFile, Subject};
 use writer::objects::Expect;
 use writer::rng::Rng;
 use writer::sets::Set;
 use writer::table::{BOOL, STRING};
-use writer::{incremental, large_files, standard};
+use writer::{incremental, large_files, looks, standard};
 
 const ROOM: usize = 65_536;
 
@@ -30,7 +31,8 @@ fn assert_answer<F: BucketFile>(subject: &Subject<F>, expect: Expect, what: &str
     assert_eq!(refusal(subject), expected, "{what}, case {number}");
 }
 
-/// A good file is accepted, and every cell is where the writer put it.
+/// A good file is accepted, every cell is where the writer put it, and the
+/// search looks at as many last rows as the writer counts.
 fn assert_cells<F: BucketFile>(subject: &Subject<F>, number: u64, is_standard: bool) {
     let table = subject.table.encode();
     let file = subject.file.encode();
@@ -46,23 +48,27 @@ fn assert_cells<F: BucketFile>(subject: &Subject<F>, number: u64, is_standard: b
     for position in subject.own_columns() {
         let column = &subject.table.columns()[position];
         let plan = model::plan(&table, &file, position as u64, &mut room);
-        let fields = plan.map(|plan| plan.numbers());
         let position = position as u64;
         assert_eq!(
             subject.file.has_place(column),
             is_standard || column.data_type != STRING.number
         );
         if !subject.file.has_place(column) {
-            assert_eq!(fields, Err(8), "case {number}");
+            assert_eq!(plan, Err(8), "case {number}");
             assert_eq!(model::place(&table, &file, 0, position, &mut room), Err(8));
             continue;
         }
-        assert_eq!(fields, Ok(subject.file.plan(&subject.table, position as usize)));
+        let plan = plan.unwrap();
+        assert_eq!(plan.numbers(), subject.file.plan(&subject.table, position as usize));
         for row in &rows {
             let (first, bits) = subject.file.place(&subject.table, position as usize, *row);
+            let [looks, entries] = subject.file.looks(&subject.table, position as usize, *row);
             let row = u64::from(*row);
+            let expected = Ok(Placed { first_bit: first, bit_count: bits, looks, entries });
             let place = model::place(&table, &file, row, position, &mut room);
-            assert_eq!(place, Ok((first, bits)), "case {number}, row {row}");
+            assert_eq!(place, expected, "case {number}, row {row}");
+            let place = model::place_by_plan(&table, &file, row, &plan, &mut room);
+            assert_eq!(place, expected, "case {number}, row {row}");
             let view = model::view(&table, &file, row, position, &mut room);
             if is_standard && column.data_type == BOOL.number {
                 assert_eq!(view, Err(14));
@@ -84,6 +90,16 @@ fn standard_cells_are_where_they_were_put() {
 fn incremental_cells_are_where_they_were_put() {
     for number in 0..600 {
         assert_cells(&incremental::generate::subject(&mut Rng::new(32, number)), number, false);
+    }
+}
+
+#[test]
+fn files_with_many_entries_are_accepted() {
+    for (number, subject) in (0..).zip(looks::standard_files()) {
+        assert_cells(&subject, number, true);
+    }
+    for (number, subject) in (0..).zip(looks::incremental_files()) {
+        assert_cells(&subject, number, false);
     }
 }
 
@@ -164,6 +180,9 @@ fn large_files_are_accepted() {
         assert_cells(&large_files::standard(rng), number, true);
         assert_cells(&large_files::incremental(rng), number, false);
         assert_eq!(refusal(&large_files::large_bucket(rng, number)), 0);
+    }
+    for endianness in [0, 1] {
+        assert_cells(&large_files::most_entries(endianness), endianness.into(), true);
     }
 }
 

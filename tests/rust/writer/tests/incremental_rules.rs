@@ -102,7 +102,11 @@ fn places() {
         let mut room = [0xA5; 3];
         assert_eq!(check(&table, 1, &file, &mut room), Ok(Kind::Incremental));
         assert_eq!(room, [0; 3]);
-        let byte = |row, position| place(&table, &file, row, position, &mut []);
+        let byte = |row, position| {
+            let placed = place(&table, &file, row, position, &mut [])?;
+            assert_eq!((placed.looks, placed.entries), (0, 0));
+            Ok((placed.first_bit, placed.bit_count))
+        };
         // Bucket 2 starts at 512 + 2 x 79, its data four bytes later.
         assert_eq!(byte(0, 0), Ok((8 * (670 + 4), 32)));
         assert_eq!(byte(1, 0), Ok((8 * (670 + 8), 32)));

@@ -43,7 +43,7 @@ fn samples_are_accepted() {
     assert_eq!(view(&table, &file, 6, 0, room).unwrap(), 2_i32.to_be_bytes());
     let flags: Vec<bool> = (0..7)
         .map(|row| {
-            let (bit, _) = place(&table, &file, row, 1, room).unwrap();
+            let bit = place(&table, &file, row, 1, room).unwrap().first_bit;
             file[bit as usize / 8] >> (bit % 8) & 1 == 1
         })
         .collect();
@@ -376,7 +376,12 @@ fn bools_and_arrays() {
     let subject = Subject { table: mixed(), number: 3, file };
     let (table, file) = (subject.table.encode(), subject.file.encode());
     let room = &mut vec![0; ROOM];
-    let position = |position: u64, row, room: &mut [u8]| place(&table, &file, row, position, room);
+    let position = |position: u64, row, room: &mut [u8]| {
+        let placed = place(&table, &file, row, position, room)?;
+        // Each set has two entries.
+        assert_eq!((placed.looks, placed.entries), (1, 2));
+        Ok::<_, u8>((placed.first_bit, placed.bit_count))
+    };
     // An array in the array file takes 64 bits; its view is refused all the same.
     assert_eq!(position(2, 5, room), Ok((8 * (512 + 16) + 64, 64)));
     assert_eq!(view(&table, &file, 5, 2, room), Err(14));

@@ -23,7 +23,7 @@ pub fn record() -> Vec<u8> {
     object("TableRecord", 1, &[object("RecordDesc", 2, &[uint(0)]), uint(1)])
 }
 
-/// A column of StandardStMan in set 0.
+/// A column of the only manager.
 #[derive(Clone, Copy)]
 pub struct Column {
     pub name: &'static str,
@@ -33,6 +33,7 @@ pub struct Column {
     pub default: usize,
     /// The elements of a direct array; none for a scalar.
     pub elements: Option<u32>,
+    pub set: u32,
     pub offset: u32,
 }
 
@@ -46,7 +47,7 @@ const fn scalar(
     default: usize,
     offset: u32,
 ) -> Column {
-    Column { name, data_type, default, elements: None, offset }
+    Column { name, data_type, default, elements: None, set: 0, offset }
 }
 
 impl Column {
@@ -86,8 +87,14 @@ impl Column {
 
 /// A big endian table of one StandardStMan with sequence number 0.
 pub fn table(rows: u32, columns: &[Column]) -> Vec<u8> {
+    table_of("StandardStMan", rows, columns)
+}
+
+/// The same of a manager of another kind.
+pub fn table_of(manager: &str, rows: u32, columns: &[Column]) -> Vec<u8> {
     let descriptions: Vec<Vec<u8>> = columns.iter().map(Column::description).collect();
     let infos: Vec<Vec<u8>> = columns.iter().map(Column::info).collect();
+    let sets: Vec<u32> = columns.iter().map(|column| column.set).collect();
     let offsets: Vec<u32> = columns.iter().map(|column| column.offset).collect();
     let description = object(
         "TableDesc",
@@ -107,11 +114,11 @@ pub fn table(rows: u32, columns: &[Column]) -> Vec<u8> {
         uint(rows),
         uint(1), // highest sequence number
         uint(1), // managers
-        string("StandardStMan"),
+        string(manager),
         uint(0),
         infos.concat(),
         uint(8 * columns.len() as u32), // DMInfo: the sets, then the offsets
-        uints(&vec![0; columns.len()]),
+        uints(&sets),
         uints(&offsets),
     ]
     .concat();

@@ -8,17 +8,29 @@ use crate::rng::Rng;
 use crate::table::Column;
 
 /// What a set of columns needs.
-struct Set {
+pub struct Set {
     columns: Vec<Column>,
     rows_per_bucket: u32,
     /// Where the last extent ends.
     end: u32,
 }
 
+impl Set {
+    /// Columns whose extents follow each other in any order, some with gaps
+    /// between them.
+    pub fn new(rng: &mut Rng, mut columns: Vec<Column>, rows_per_bucket: u32) -> Self {
+        let end = lay_out(rng, &mut columns, rows_per_bucket);
+        Self { columns, rows_per_bucket, end }
+    }
+}
+
 /// A table and its StandardStMan file, mostly of few rows and small buckets.
 pub fn subject(rng: &mut Rng) -> Subject<StandardFile> {
     if rng.chance(1, 150) {
         return many_rows(rng);
+    }
+    if rng.chance(1, 20) {
+        return many_entries(rng);
     }
     let count = match rng.below(20) {
         0..=11 => 1,
@@ -40,15 +52,14 @@ pub fn subject(rng: &mut Rng) -> Subject<StandardFile> {
     with_sets(rng, rows, sets)
 }
 
-/// A set of columns whose extents follow each other in any order, some with
-/// gaps between them.
+/// A set of few columns, or of none.
 fn set(rng: &mut Rng, sets: usize) -> Set {
     let columns = match rng.below(8) {
         0 => 0,
         1..=5 => rng.within(1..=3),
         _ => rng.within(1..=if sets > 4 { 3 } else { 6 }),
     };
-    let mut columns: Vec<Column> = (0..columns).map(|_| lean::column(rng)).collect();
+    let columns: Vec<Column> = (0..columns).map(|_| lean::column(rng)).collect();
     let row_bytes: u64 = columns.iter().map(|column| cells::extent(column, 1)).sum();
     let rows_per_bucket = match rng.below(10) {
         _ if row_bytes > 60 => rng.within(1..=3),
@@ -58,8 +69,7 @@ fn set(rng: &mut Rng, sets: usize) -> Set {
         3 if columns.is_empty() => rng.pick(&[8_388_607, 8_388_608]),
         _ => rng.within(2..=9),
     } as u32;
-    let end = lay_out(rng, &mut columns, rows_per_bucket);
-    Set { columns, rows_per_bucket, end }
+    Set::new(rng, columns, rows_per_bucket)
 }
 
 /// Gives the columns their offsets; gives the end of the last extent.
@@ -85,17 +95,35 @@ fn many_rows(rng: &mut Rng) -> Subject<StandardFile> {
     with_sets(rng, rows, vec![set])
 }
 
+/// Tens or hundreds of entries in one to three sets, fewer where buckets are
+/// large.
+fn many_entries(rng: &mut Rng) -> Subject<StandardFile> {
+    let count = rng.within(1..=3);
+    let sets: Vec<Set> = (0..count).map(|_| set(rng, count)).collect();
+    let least = sets.iter().map(|set| set.rows_per_bucket as usize).min().unwrap_or(1);
+    let size = sets.iter().map(|set| set.end).max().unwrap_or(0).max(16);
+    let most = rng.pick(&[20, 30, 40, 80, 150, 300]).min(30_000 / size as usize).max(10);
+    let rows = (least * rng.within(10..=most)).min(1000) as u32;
+    with_sets(rng, rows, sets)
+}
+
 /// The table and file of these sets.
 fn with_sets(rng: &mut Rng, rows: u32, sets: Vec<Set>) -> Subject<StandardFile> {
+    let parts = |set: Set| match rows {
+        0..=1000 => (lean::parts(rng, rows, set.rows_per_bucket), set),
+        _ => (full_parts(rows, set.rows_per_bucket), set),
+    };
+    let sets = sets.into_iter().map(parts).collect();
+    with_parts(rng, rows, sets)
+}
+
+/// The same, of sets whose buckets hold so many rows each.
+pub fn with_parts(rng: &mut Rng, rows: u32, sets: Vec<(Vec<u32>, Set)>) -> Subject<StandardFile> {
     let endianness = rng.below(2) as u32;
-    let least_size = sets.iter().map(|set| set.end).max().unwrap_or(0).max(16);
+    let least_size = sets.iter().map(|(_, set)| set.end).max().unwrap_or(0).max(16);
     let mut columns = Vec::new();
     let mut indices = Vec::new();
-    for (number, set) in sets.into_iter().enumerate() {
-        let parts = match rows {
-            0..=1000 => lean::parts(rng, rows, set.rows_per_bucket),
-            _ => full_parts(rows, set.rows_per_bucket),
-        };
+    for (number, (parts, set)) in sets.into_iter().enumerate() {
         let mut index = Index::new(set.rows_per_bucket, set.columns.len(), &entries(&parts));
         index.free_space = free_space(rng);
         indices.push(index);
@@ -154,6 +182,8 @@ fn place_buckets(rng: &mut Rng, file: &mut StandardFile, least_size: u32) {
     let length = file.text().bytes.len();
     let data: usize = file.indices.iter().map(|index| index.buckets.elements.len()).sum();
     let links = LINKS as u32;
+    // At most 4,096 buckets, of which nine may be more than are needed.
+    let least_size = least_size.max(links + length.div_ceil(4096 - 9 - data) as u32);
     let whole = links + length as u32;
     let slack = |rng: &mut Rng| if rng.chance(1, 2) { 0 } else { rng.within(1..=40) as u32 };
     let is_small = |size: u32| size as usize * (data + 1) < 8000;
