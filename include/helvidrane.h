@@ -9,8 +9,19 @@
  * and share no byte with each other or with anything else that is lent.
  *
  * Answers. A function that returns enum hv_number gives 0 and writes the numbers of its answer into `out`, or it gives the
- * number of a refusal and writes as many zeros. If `out` is shorter than the answer, it gets the first numbers of it, as many
- * as it holds; if it is longer, what stands behind the answer is left alone. The lengths are the constants HV_.._LEN.
+ * number of a refusal and writes as many zeros, but for the byte. If `out` is shorter than the answer, it gets the first numbers
+ * of it, as many as it holds; if it is longer, what stands behind the answer is left alone. The lengths are the constants
+ * HV_.._LEN.
+ *
+ * The byte. Every answer has a number HV_.._BYTE: in a refusal of 1 to 7 the byte at which the failing field begins; in all
+ * others, and where nothing is refused, 0. Byte 0 is a field's too, so the number that the function gives, and not this one,
+ * tells whether anything is refused. The byte is counted in the file that the field is in, from its start: in table.dat if
+ * hv_description refuses the table, else in the manager's file. The index text of a StandardStMan file may lie in several
+ * buckets, so its bytes are counted from the text's start. To know whether a byte is one of the text, ask hv_check with a room
+ * of 0 bytes: it is if that gives HV_REFUSED_ROOM in place of the refusal. A String is one field, which begins with its length.
+ * An object that is longer than its container, longer than its fields use or too short for its header is blamed at its header,
+ * behind the mark if it has one; a file that is too short for its buckets at its end; index text that is left over at the first
+ * byte left over; a table.dat of more than 65,536 bytes at 65,536.
  *
  * Later versions. A later version of this library may write a longer answer, may know more refusals and may have more
  * functions; all numbers that are here keep their place and their meaning. So a program that was compiled with this header
@@ -38,7 +49,7 @@ extern "C" {
 
 /* The version: here, and nowhere else. */
 #define HV_VERSION_MAJOR 1
-#define HV_VERSION_MINOR 2
+#define HV_VERSION_MINOR 3
 #define HV_VERSION_PATCH 0
 #define HV_IN_QUOTES(major, minor, patch) #major "." #minor "." #patch
 #define HV_QUOTED(major, minor, patch) HV_IN_QUOTES(major, minor, patch)
@@ -103,6 +114,7 @@ enum hv_description_number {
     HV_DESCRIPTION_BIG_ENDIAN, /* 1: big endian, 0: little endian */
     HV_DESCRIPTION_COLUMNS,
     HV_DESCRIPTION_MANAGERS,
+    HV_DESCRIPTION_BYTE,
     HV_DESCRIPTION_LEN
 };
 
@@ -119,6 +131,7 @@ enum hv_column_number {
     HV_COLUMN_SEQUENCE, /* the sequence number of its manager */
     HV_COLUMN_SET,
     HV_COLUMN_OFFSET,
+    HV_COLUMN_BYTE,
     HV_COLUMN_LEN
 };
 
@@ -128,19 +141,24 @@ enum hv_manager_number {
     HV_MANAGER_KIND, /* enum hv_kind */
     HV_MANAGER_NAME, /* where its name begins in table.dat */
     HV_MANAGER_NAME_LEN,
+    HV_MANAGER_BYTE,
     HV_MANAGER_LEN
 };
 
-/* The number of hv_column_by_name: the position. */
-#define HV_POSITION_LEN 1
+/* The numbers of hv_column_by_name. */
+enum hv_position_number { HV_POSITION, HV_POSITION_BYTE, HV_POSITION_LEN };
 
-/* The number of hv_check. */
+/* The numbers of hv_check. */
 enum hv_check_number {
     HV_CHECK_BUCKET_SIZE, /* in bytes */
+    HV_CHECK_BYTE,
     HV_CHECK_LEN
 };
 
-/* The numbers of a plan. Set, offset and rows per bucket are 0 for IncrementalStMan, whose cells are whole bytes. */
+/*
+ * The numbers of hv_plan. The first HV_PLAN_NUMBERS are the plan. Set, offset and rows per bucket are 0 for IncrementalStMan, whose
+ * cells are whole bytes.
+ */
 enum hv_plan_number {
     HV_PLAN_POSITION,
     HV_PLAN_SEQUENCE,
@@ -151,7 +169,9 @@ enum hv_plan_number {
     HV_PLAN_OFFSET,
     HV_PLAN_ROWS_PER_BUCKET,
     HV_PLAN_BUCKET_SIZE,
-    HV_PLAN_LEN
+    HV_PLAN_BYTE,
+    HV_PLAN_LEN,
+    HV_PLAN_NUMBERS = HV_PLAN_BYTE
 };
 
 /*
@@ -165,11 +185,12 @@ enum hv_place_number {
     HV_PLACE_BIT_COUNT,
     HV_PLACE_LOOKS,
     HV_PLACE_ENTRIES,
+    HV_PLACE_BYTE,
     HV_PLACE_LEN
 };
 
-/* The numbers of a view, counted in bytes from the file's start. */
-enum hv_view_number { HV_VIEW_START, HV_VIEW_LENGTH, HV_VIEW_LEN };
+/* The numbers of a view. Start and length are counted in bytes, from the file's start. */
+enum hv_view_number { HV_VIEW_START, HV_VIEW_LENGTH, HV_VIEW_BYTE, HV_VIEW_LEN };
 
 /*
  * Description: what table.dat says of the table.
@@ -191,14 +212,14 @@ enum hv_number hv_manager(const uint8_t *table, size_t table_len, uint64_t index
 
 /*
  * Column by name: the position of the column with exactly these bytes as its name.
- * out: HV_POSITION_LEN number. Refusals: 1 to 7; 8, no such column.
+ * out: HV_POSITION_LEN numbers. Refusals: 1 to 7; 8, no such column.
  */
 enum hv_number hv_column_by_name(const uint8_t *table, size_t table_len, const uint8_t *name, size_t name_len, uint64_t *out,
                                  size_t out_len);
 
 /*
  * File check: whether `file` is a right file of the manager with this sequence number.
- * out: HV_CHECK_LEN number. Refusals: 1 to 7, of table.dat or of the file; 8, no such manager, or one of another kind; 10; 11;
+ * out: HV_CHECK_LEN numbers. Refusals: 1 to 7, of table.dat or of the file; 8, no such manager, or one of another kind; 10; 11;
  * 13.
  */
 enum hv_number hv_check(const uint8_t *table, size_t table_len, const uint8_t *file, size_t file_len, uint64_t sequence,
@@ -221,7 +242,7 @@ enum hv_number hv_place(const uint8_t *table, size_t table_len, const uint8_t *f
                         uint64_t position, uint8_t *room, size_t room_len, uint64_t *out, size_t out_len);
 
 /*
- * Place, of the column that a plan was made for. A plan whose first HV_PLAN_LEN numbers are not all those of a fresh plan for its
+ * Place, of the column that a plan was made for. A plan whose first HV_PLAN_NUMBERS numbers are not all those of a fresh plan for its
  * position is stale. HV_SHORT where it has fewer, and then nothing is written, the room included; numbers behind them are not
  * looked at.
  * out: HV_PLACE_LEN numbers. Refusals: those of hv_plan; 12; 9.

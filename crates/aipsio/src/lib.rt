@@ -6,9 +6,10 @@ pub mod strings;
 
 ghost use mathlib.Core.Path.{_≡_};
 ghost use Prim.Native.Nat.{_<_, _≤_};
-ghost use Rattle.aipsio_rules.specs.Field.{leftIn, refusedAt, skipped, skippedEach, judged, settled};
+ghost use Rattle.aipsio_rules.specs.Field.{leftIn, refusedAt, refusalIn, skipped, skippedEach, judged, settled};
 use aipsio_rules::Cursor;
 use aipsio_rules::Value;
+use bytes_at::Refusal;
 
 // How many bytes the enclosing object has left.
 pub fn left(c: Cursor) -> usize
@@ -27,6 +28,13 @@ pub fn refuse(c: Cursor, from: usize, number: usize) -> Cursor
         big: c.big,
         refused: number,
     }
+}
+
+// Why the cursor is refused.
+pub fn refusal(c: Cursor) -> Refusal
+    ensures { λ r. ⌜ r ≡ refusalIn c ⌝ }
+{
+    bytes_at::blame(c.refused, c.at)
 }
 
 // Past a field of n bytes; 1 where the enclosing object ends before.

@@ -120,7 +120,7 @@ pub fn block(s: &[u8], c: Cursor, n: usize, size: usize) -> Value
     crate::settle(k.at, d)
 }
 
-// A SimpleOrderedMap of Int to Int. Its pairs are passed over.
+// A SimpleOrderedMap of Int to Int. Its keys and values are passed over.
 pub fn map(s: &[u8], c: Cursor) -> Cursor
     ensures { λ r. ⌜ r ≡ mapAt (now (s .entry)) c ⌝ }
 {
@@ -129,7 +129,7 @@ pub fn map(s: &[u8], c: Cursor) -> Cursor
     let default = crate::numbers::uint(s, o.next);
     let n = crate::numbers::uint(s, default.next);
     let increment = crate::numbers::uint(s, n.next);
-    let e = crate::skip_each(increment.next, n.value, 8);
+    let e = crate::skip_each(increment.next, 2 * n.value, 4);
     close(e, c)
 }
 

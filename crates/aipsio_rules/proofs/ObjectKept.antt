@@ -37,7 +37,7 @@ block-reads s c n size =
 pub map-keeps : (s : List ℕ) (c : Cursor) → Keeps c (mapAt s c)
 unfolding mapAt _>>=_
 map-keeps s c =
-    opened-reads s c _ 1 1 .keeps ⨟ uint-reads s _ .keeps ⨟ uint-reads s _ .keeps ⨟ uint-reads s _ .keeps ⨟ each-keeps _ _ 8 ⨟ closed-keeps _ c
+    opened-reads s c _ 1 1 .keeps ⨟ uint-reads s _ .keeps ⨟ uint-reads s _ .keeps ⨟ uint-reads s _ .keeps ⨟ each-keeps _ _ 4 ⨟ closed-keeps _ c
 
 pub iposition-keeps : (s : List ℕ) (c : Cursor) → Keeps c (ipositionAt s c)
 unfolding ipositionAt _>>=_

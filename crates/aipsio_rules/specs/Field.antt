@@ -7,6 +7,8 @@ use lib.Dec.{leb, eqb}
 use Rattle.bytes_at.specs.Number.{uintOf}
 use Rattle.bytes_at.specs.Bytes.{sameBytes}
 use Rattle.bytes_at.specs.Steps.{_>>=_}
+use Rattle.bytes_at.specs.declared.Refusal.{Refusal}
+use Rattle.bytes_at.specs.Stages.{blaming}
 use Rattle.aipsio_rules.specs.declared.Cursor.{Cursor}
 use Rattle.aipsio_rules.specs.declared.Value.{Value}
 use Rattle.aipsio_rules.specs.declared.Text.{Text}
@@ -25,6 +27,10 @@ latched c d = cond (eqb (c .refused) 0) d c
 -- refused with a number, at the field that begins at `from`
 abbrev pub refusedAt : Cursor → ℕ → ℕ → Cursor
 refusedAt c from n = record { at = from; end = c .end; big = c .big; refused = n }
+
+-- why a cursor is refused: its number, at the field where it stands
+abbrev pub refusalIn : Cursor → Refusal
+refusalIn c = blaming (c .refused) (c .at)
 
 -- moved on to a place of the same object
 abbrev pub movedTo : Cursor → ℕ → Cursor

@@ -60,14 +60,15 @@ blockAt s c n size = do
   d ← closed e c
   settled (k .at) d
 
--- a SimpleOrderedMap of Int to Int (Note 260, 2.3): default value, number of entries, increment, pairs
+-- a SimpleOrderedMap of Int to Int (Note 260, 2.3): default value, number of entries, increment, and for each entry its key and its
+-- value, two fields
 unfoldable pub mapAt : List ℕ → Cursor → Cursor
 mapAt s c = do
   o ← opened s c (bytes "SimpleOrderedMap") 1 1
   default ← uintAt s (o .next)
   n ← uintAt s (default .next)
   increment ← uintAt s (n .next)
-  e ← skippedEach (increment .next) (n .value) 8
+  e ← skippedEach (increment .next) (2 * n .value) 4
   closed e c
 
 -- an axis of IPosition: "version 1 Int, 2 Int64"

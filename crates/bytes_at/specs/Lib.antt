@@ -1,4 +1,4 @@
--- What all chapters share: numbers in bytes, lists, how definitions are put together, stages; and, last, how the code holds names.
+-- What all chapters share: numbers in bytes, lists, how definitions are put together, refusals and stages; and, last, how the code holds names.
 pub mod Number
 pub mod Bytes
 pub mod Lists

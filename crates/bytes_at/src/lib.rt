@@ -1,4 +1,4 @@
-// Bytes: the numbers that stand in them, their parts, clearing and copying.
+// Bytes: the numbers that stand in them, their parts, clearing and copying; and refusals, which tell the byte of a fault.
 pub mod text_at;
 
 ghost use mathlib.Core.Path.{_≡_};
@@ -8,6 +8,14 @@ ghost use mathlib.Core.Bool.{true, false, _&&_};
 ghost use lib.Dec.{leb};
 ghost use lib.Seq.{paste};
 ghost use Rattle.bytes_at.specs.Number.{bytesOf, uintOf};
+ghost use Rattle.bytes_at.specs.Stages.{blaming};
+
+// Why something is refused: its number (RULES.md 8.1), which is 0 where nothing is, and the byte at which the failing field begins
+// (RULES.md 8.5). Byte 0 is a place too, so the number alone tells whether anything is refused.
+pub struct Refusal {
+    pub number: usize,
+    pub byte: usize,
+}
 
 // How many bytes a number has.
 pub enum Width {
@@ -164,6 +172,22 @@ pub fn minus(a: usize, b: usize) -> usize
         return a - b;
     }
     0
+}
+
+// A refusal with a number, of a field that begins at a place.
+pub fn blame(number: usize, at: usize) -> Refusal
+    ensures { λ r. ⌜ r ≡ blaming number at ⌝ }
+{
+    if within(number, 1, 7) {
+        return Refusal {
+            number: number,
+            byte: at,
+        };
+    }
+    Refusal {
+        number: number,
+        byte: 0,
+    }
 }
 
 // The lesser of two numbers.

@@ -1,8 +1,9 @@
 -- The numbers that C gets for a column, a manager, a check, a plan, a place or a view, and a plan from its numbers.
 use Prim.Native.Nat.{ℕ, _/_}
-use mathlib.Core.List.{List, [], _∷_}
+use mathlib.Core.List.{List, [], _∷_, _++_}
 use mathlib.Core.Bool.{Bool, true, false}
 use lib.ListN.{getD}
+use Rattle.bytes_at.specs.declared.Refusal.{Refusal}
 use Rattle.table_rules.specs.declared.Column.{Column}
 use Rattle.table_rules.specs.declared.Binding.{Binding}
 use Rattle.table_rules.specs.declared.Manager.{Manager}
@@ -10,6 +11,10 @@ use Rattle.table_rules.specs.declared.Kind.{Kind}
 use Rattle.table_rules.specs.declared.Kind.the-variants.{Other, Standard, Incremental}
 use Rattle.lookup_rules.specs.declared.Plan.{Plan}
 use Rattle.lookup_rules.specs.declared.Answer.{Answer}
+
+-- the numbers of an answer, and behind them the byte of its refusal: every function that can be refused tells it so
+abbrev pub withByte : List ℕ → Refusal → List ℕ
+withByte numbers why = numbers ++ (why .byte ∷ [])
 
 abbrev pub flagOf : Bool → ℕ
 flagOf true = 1
@@ -32,12 +37,15 @@ oneManager m = m .number ∷ kindNumber (m .kind) ∷ m .start ∷ m .len ∷ []
 
 -- File check: the bucket size of the file
 abbrev pub checkNumbers : Answer → List ℕ
-checkNumbers a = a .size ∷ []
+checkNumbers a = withByte (a .size ∷ []) (a .refused)
 
--- "position, sequence number, data type, element count, cell bits, set, offset, rows per bucket and bucket size"
-abbrev pub planNumbers : Plan → List ℕ
-planNumbers p =
-    p .position ∷ p .sequence ∷ p .datatype ∷ p .elements ∷ p .bits ∷ p .set ∷ p .offset ∷ p .per ∷ p .size ∷ []
+-- Plan: "position, sequence number, data type, element count, cell bits, set, offset, rows per bucket and bucket size"
+abbrev pub planNumbers : Answer → List ℕ
+planNumbers a =
+    let p = a .plan in
+    withByte
+    (p .position ∷ p .sequence ∷ p .datatype ∷ p .elements ∷ p .bits ∷ p .set ∷ p .offset ∷ p .per ∷ p .size ∷ [])
+    (a .refused)
 
 -- the plan of nine numbers in that order
 unfoldable pub planFrom : List ℕ → Plan
@@ -55,8 +63,8 @@ planFrom s = record {
 
 -- Place: "first bit and bit count, counted from the file's start", the looks of the search and the entries of the column's set
 abbrev pub placeNumbers : Answer → List ℕ
-placeNumbers a = a .first ∷ a .count ∷ a .looks ∷ a .entries ∷ []
+placeNumbers a = withByte (a .first ∷ a .count ∷ a .looks ∷ a .entries ∷ []) (a .refused)
 
 -- View: the same part of the file in bytes, its start and its length
 abbrev pub viewNumbers : Answer → List ℕ
-viewNumbers a = a .first / 8 ∷ a .count / 8 ∷ []
+viewNumbers a = withByte (a .first / 8 ∷ a .count / 8 ∷ []) (a .refused)

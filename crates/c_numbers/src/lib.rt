@@ -1,10 +1,12 @@
-// Columns, managers, checks, plans, places and views as the numbers that C gets, and a plan from its numbers.
+// Columns, managers, checks, plans, places and views as the numbers that C gets, each with the byte of its refusal last, and a plan
+// from its numbers.
 pub mod values;
 
 ghost use mathlib.Core.Path.{_≡_};
 ghost use Prim.Native.Nat.{_≤_};
 ghost use lib.ListN.{length};
-ghost use Rattle.c_numbers.specs.Numbers.{flagOf, kindNumber, oneColumn, oneManager, checkNumbers, planNumbers, placeNumbers, viewNumbers, planFrom};
+ghost use Rattle.c_numbers.specs.Numbers.{flagOf, kindNumber, withByte, oneColumn, oneManager, checkNumbers, planNumbers, placeNumbers, viewNumbers, planFrom};
+use bytes_at::Refusal;
 use lookup_rules::Answer;
 use lookup_rules::Plan;
 use table_rules::Binding;
@@ -32,8 +34,8 @@ pub fn kind_number(kind: Kind) -> u64
 }
 
 // A column and where it is kept.
-pub fn of_column(c: Column, b: Binding) -> [u64; 11]
-    ensures { λ r. ⌜ r ≡ oneColumn c b ⌝ }
+pub fn of_column(c: Column, b: Binding, why: Refusal) -> [u64; 12]
+    ensures { λ r. ⌜ r ≡ withByte (oneColumn c b) why ⌝ }
 {
     let t = c.datatype;
     let array = flag(c.array);
@@ -49,27 +51,35 @@ pub fn of_column(c: Column, b: Binding) -> [u64; 11]
         b.sequence as u64,
         b.set as u64,
         b.offset as u64,
+        why.byte as u64,
     ]
 }
 
-pub fn of_manager(m: Manager) -> [u64; 4]
-    ensures { λ r. ⌜ r ≡ oneManager m ⌝ }
+pub fn of_manager(m: Manager, why: Refusal) -> [u64; 5]
+    ensures { λ r. ⌜ r ≡ withByte (oneManager m) why ⌝ }
 {
     let kind = m.kind;
     let number = kind_number(kind);
-    [m.number as u64, number, m.start as u64, m.len as u64]
+    [
+        m.number as u64,
+        number,
+        m.start as u64,
+        m.len as u64,
+        why.byte as u64,
+    ]
 }
 
 // A check: the file's bucket size.
-pub fn of_check(a: Answer) -> [u64; 1]
+pub fn of_check(a: Answer) -> [u64; 2]
     ensures { λ r. ⌜ r ≡ checkNumbers a ⌝ }
 {
-    [a.size as u64]
+    [a.size as u64, a.refused.byte as u64]
 }
 
-pub fn of_plan(p: Plan) -> [u64; 9]
-    ensures { λ r. ⌜ r ≡ planNumbers p ⌝ }
+pub fn of_plan(a: Answer) -> [u64; 10]
+    ensures { λ r. ⌜ r ≡ planNumbers a ⌝ }
 {
+    let p = a.plan;
     [
         p.position as u64,
         p.sequence as u64,
@@ -80,11 +90,12 @@ pub fn of_plan(p: Plan) -> [u64; 9]
         p.offset as u64,
         p.per as u64,
         p.size as u64,
+        a.refused.byte as u64,
     ]
 }
 
 // A place: first bit and bit count, the looks of the search and the entries of the column's set.
-pub fn of_place(a: Answer) -> [u64; 4]
+pub fn of_place(a: Answer) -> [u64; 5]
     ensures { λ r. ⌜ r ≡ placeNumbers a ⌝ }
 {
     [
@@ -92,14 +103,19 @@ pub fn of_place(a: Answer) -> [u64; 4]
         a.count as u64,
         a.looks as u64,
         a.entries as u64,
+        a.refused.byte as u64,
     ]
 }
 
 // A view: the start and the length of the cell's part of the file, in bytes.
-pub fn of_view(a: Answer) -> [u64; 2]
+pub fn of_view(a: Answer) -> [u64; 3]
     ensures { λ r. ⌜ r ≡ viewNumbers a ⌝ }
 {
-    [(a.first / 8) as u64, (a.count / 8) as u64]
+    [
+        (a.first / 8) as u64,
+        (a.count / 8) as u64,
+        a.refused.byte as u64,
+    ]
 }
 
 // The first nine numbers as a plan.

@@ -3,22 +3,23 @@ ghost use mathlib.Core.Path.{_≡_};
 ghost use Prim.Native.Nat.{_≤_};
 ghost use Rattle.table_rules.specs.Table.{positionRefusal, positionValue};
 ghost use Rattle.c_numbers.specs.Answers.{missing, pickedColumn, pickedBinding, pickedManager, written};
+use bytes_at::Refusal;
 use table_rules::Binding;
 use table_rules::Column;
 use table_rules::Manager;
 use table_rules::Position;
 
 // The refusal so far, or 8 where there is no such position.
-pub fn refusal(refused: usize, position: u64, count: usize) -> u64
+pub fn refusal(refused: Refusal, position: u64, count: usize) -> Refusal
     ensures { λ r. ⌜ r ≡ missing refused position count ⌝ }
 {
-    if refused != 0 {
-        return refused as u64;
+    if refused.number != 0 {
+        return refused;
     }
     if position < count as u64 {
-        return 0;
+        return Refusal { number: 0, byte: 0 };
     }
-    8
+    Refusal { number: 8, byte: 0 }
 }
 
 // The column at a position; zeros where there is none.
@@ -72,12 +73,12 @@ pub fn write(values: &[u64], out: &mut [u64])
     }
 }
 
-pub fn position_refusal(p: Position) -> u64
+pub fn position_refusal(p: Position) -> Refusal
     ensures { λ r. ⌜ r ≡ positionRefusal p ⌝ }
 {
     match p {
-        Position::At(_) => 0,
-        Position::Refused(n) => n as u64,
+        Position::At(_) => Refusal { number: 0, byte: 0 },
+        Position::Refused(why) => why,
     }
 }
 

@@ -4,7 +4,7 @@ use Rattle.bytes_at.specs.Number.{bigFrom, littleFrom, uintOf, numbersAt}
 use Rattle.bytes_at.specs.Bytes.{sameBytes}
 use Rattle.bytes_at.specs.Lists.{firstFrom, all, allFrom, pairs, allApart}
 use Rattle.bytes_at.specs.Steps.{after, _>>=_}
-use Rattle.bytes_at.specs.Stages.{_▷_, orNo}
+use Rattle.bytes_at.specs.Stages.{_▷_, orAt}
 use Rattle.aipsio_rules.specs.Field.{skipped, skippedEach, judged, settled, sizedAt, uintAt, rangedAt, agreed, markAt, textBefore, textAt, stringAt, nameAt}
 use Rattle.aipsio_rules.specs.Object.{entered, opened, closed, passed, recordAt, blockAt, mapAt, ipositionAt, axisInto, axesAt, shapeAt}
 use Rattle.table_rules.specs.DataType.{typePlace, elementBits, withName}
@@ -22,10 +22,10 @@ use Rattle.cases.specs.SmallFile.{tableDat}
 use Rattle.cases.specs.Cases.{cases, Right}
 
 pub right : Right
-unfolding bigFrom littleFrom uintOf sameBytes firstFrom after _>>=_ _▷_ orNo skipped skippedEach judged settled sizedAt uintAt rangedAt agreed markAt textBefore textAt stringAt nameAt entered opened closed passed recordAt blockAt mapAt ipositionAt axisInto axesAt shapeAt typePlace elementBits withName columnTypeOf cellBits columnTypeAt columnHeadAt notesAt optionsAt dimensionsAt elementsAt layoutAt defaultAt tailAt columnRestAt noColumn isNamed firstNamed columnInto columnsAt kindOf columnSetHeadAt firstNumber noManager managerInto managersAt sequenceAt ownShapeAt noOwner ownerInto ownersAt infoInto infosAt noBinding bindingOf bindingAt bindingsAt tableHeadAt tableDescHeadAt refusedTable describedAs links chainOk chainText chainHolds offsetOk indexOk indexText freeOk all allFrom pairs allApart entryOf covers boundTo dataOf fits inBucket clear numbersAt bucketFieldsAt indexFieldsAt headed headerIn ssmIndexAt setInto setsAt indexed indexIn indexTextOf setsFrom columnsFrom mapWith refusalWith checkedWith kindWith targetOf fileOf placeIn planFor samePlan stagesOf answered answerFor roomFor stagesAfter padded cases
+unfolding bigFrom littleFrom uintOf sameBytes firstFrom after _>>=_ _▷_ orAt skipped skippedEach judged settled sizedAt uintAt rangedAt agreed markAt textBefore textAt stringAt nameAt entered opened closed passed recordAt blockAt mapAt ipositionAt axisInto axesAt shapeAt typePlace elementBits withName columnTypeOf cellBits columnTypeAt columnHeadAt notesAt optionsAt dimensionsAt elementsAt layoutAt defaultAt tailAt columnRestAt noColumn isNamed firstNamed columnInto columnsAt kindOf columnSetHeadAt firstNumber noManager managerInto managersAt sequenceAt ownShapeAt noOwner ownerInto ownersAt infoInto infosAt noBinding bindingOf bindingAt bindingsAt tableHeadAt tableDescHeadAt refusedTable describedAs links chainOk chainText chainHolds offsetOk indexOk indexText freeOk all allFrom pairs allApart entryOf covers boundTo dataOf fits inBucket clear numbersAt bucketFieldsAt indexFieldsAt headed headerIn ssmIndexAt setInto setsAt indexed indexIn indexTextOf setsFrom columnsFrom mapWith refusalWith checkedWith kindWith targetOf fileOf placeIn planFor samePlan stagesOf answered answerFor roomFor stagesAfter padded cases
 right = refl
 
 -- the small table's manager is a StandardStMan
 pub small-standard : inStandard tableDat 0
-unfolding bigFrom littleFrom uintOf sameBytes firstFrom after _>>=_ _▷_ orNo skipped skippedEach judged settled sizedAt uintAt rangedAt agreed markAt textBefore textAt stringAt nameAt entered opened closed passed recordAt blockAt mapAt ipositionAt axisInto axesAt shapeAt typePlace elementBits withName columnTypeOf cellBits columnTypeAt columnHeadAt notesAt optionsAt dimensionsAt elementsAt layoutAt defaultAt tailAt columnRestAt noColumn isNamed firstNamed columnInto columnsAt kindOf columnSetHeadAt firstNumber noManager managerInto managersAt sequenceAt ownShapeAt noOwner ownerInto ownersAt infoInto infosAt noBinding bindingOf bindingAt bindingsAt tableHeadAt tableDescHeadAt refusedTable describedAs links chainOk chainText chainHolds offsetOk indexOk indexText freeOk all allFrom pairs allApart entryOf covers boundTo dataOf fits inBucket clear numbersAt bucketFieldsAt indexFieldsAt headed headerIn ssmIndexAt setInto setsAt indexed indexIn indexTextOf setsFrom columnsFrom mapWith refusalWith checkedWith kindWith targetOf fileOf placeIn planFor samePlan stagesOf answered answerFor roomFor stagesAfter padded
+unfolding bigFrom littleFrom uintOf sameBytes firstFrom after _>>=_ _▷_ orAt skipped skippedEach judged settled sizedAt uintAt rangedAt agreed markAt textBefore textAt stringAt nameAt entered opened closed passed recordAt blockAt mapAt ipositionAt axisInto axesAt shapeAt typePlace elementBits withName columnTypeOf cellBits columnTypeAt columnHeadAt notesAt optionsAt dimensionsAt elementsAt layoutAt defaultAt tailAt columnRestAt noColumn isNamed firstNamed columnInto columnsAt kindOf columnSetHeadAt firstNumber noManager managerInto managersAt sequenceAt ownShapeAt noOwner ownerInto ownersAt infoInto infosAt noBinding bindingOf bindingAt bindingsAt tableHeadAt tableDescHeadAt refusedTable describedAs links chainOk chainText chainHolds offsetOk indexOk indexText freeOk all allFrom pairs allApart entryOf covers boundTo dataOf fits inBucket clear numbersAt bucketFieldsAt indexFieldsAt headed headerIn ssmIndexAt setInto setsAt indexed indexIn indexTextOf setsFrom columnsFrom mapWith refusalWith checkedWith kindWith targetOf fileOf placeIn planFor samePlan stagesOf answered answerFor roomFor stagesAfter padded
 small-standard = refl

@@ -7,6 +7,7 @@ use Prim.Native.Nat.{ℕ, _*_}
 use lib.ListN.{take, drop, set, replicate}
 use lib.Dec.{eqb}
 use Rattle.bytes_at.specs.Number.{uintOf}
+use Rattle.bytes_at.specs.declared.Refusal.{Refusal}
 use Rattle.bytes_at.specs.Bytes.{sameBytes}
 use Rattle.bytes_at.specs.Lists.{all}
 use Rattle.standard_rules.specs.Header.{headerAt}
@@ -41,13 +42,13 @@ abbrev gives : List ℕ → List ℕ → ℕ → Question → ℕ → ℕ → Bo
 gives t f n q first count =
     let a = answerOf t f q roomLength in
     let left = textIn f n ++ replicate 140 0 in
-    eqb (a .refused) 0 && eqb (a .first) first && eqb (a .count) count && sameBytes (roomAfter t f q roomLength) (take 140 left)
+    eqb (a .refused .number) 0 && eqb (a .first) first && eqb (a .count) count && sameBytes (roomAfter t f q roomLength) (take 140 left)
 
--- it is refused with a number and zeros, and the room is all zero
+-- it is refused with a number, above 7, and zeros, and the room is all zero
 abbrev refuses : List ℕ → List ℕ → Question → ℕ → Bool
 refuses t f q n =
     let a = answerOf t f q roomLength in
-    eqb (a .refused) n && samePlan (a .plan) noPlan && eqb (a .first) 0 && eqb (a .count) 0 && eqb (a .looks) 0 && eqb (a .entries) 0
+    eqb (a .refused .number) n && eqb (a .refused .byte) 0 && samePlan (a .plan) noPlan && eqb (a .first) 0 && eqb (a .count) 0 && eqb (a .looks) 0 && eqb (a .entries) 0
     && sameBytes (roomAfter t f q roomLength) (replicate 140 0)
 
 -- table.dat with another offset of TIME: its last byte, 933
@@ -67,7 +68,7 @@ abbrev withIndexBuckets : ℕ → List ℕ
 withIndexBuckets n = set f0 53 n
 
 -- the refusal of the header of a file that ends after n bytes
-abbrev headerOf : ℕ → ℕ
+abbrev headerOf : ℕ → Refusal
 headerOf n = headerAt (take n f0) true .refused
 
 unfoldable pub cases : List Bool
@@ -94,9 +95,9 @@ cases =
     ∷ gives (timeAt 32) f0 134 (Check 0) 0 0
     ∷ gives (timeAt 32) f0 134 (cellIn 0 TIME) (8 * 672) 64
     ∷ refuses (timeAt 33) f0 (cellIn 0 TIME) 11
-    -- K: the StandardStMan header object is 70 bytes, 74 with mark
+    -- K: the StandardStMan header object is 70 bytes, 74 with mark; where only its end is missing, it is blamed at its header, byte 4
     ∷ eqb (uintOf true 4 f0 4) 70
-    ∷ (eqb (headerOf 74) 0 && eqb (headerOf 73) 1)
+    ∷ (eqb (headerOf 74 .number) 0 && eqb (headerOf 73 .number) 1 && eqb (headerOf 73 .byte) 4)
     -- L: 8 Bools per row, row 1, offset 0, bucket 0: bits 4,104 to 4,111
     ∷ gives boolsDat boolsF0 126 (cellIn 1 0) 4104 8
     ∷ []

@@ -4,11 +4,12 @@ use mathlib.Core.Bool.{Bool, true, false}
 use mathlib.Core.List.{List}
 use Prim.Native.Nat.{ℕ, _+_, _*_, _≤_, _<_}
 use native.Mathlib.Omega.{arith}
-use borrow.Author.Tests.{ne-eqb}
+use borrow.Author.Tests.{eq-eqb, ne-eqb}
 use lib.Dec.{leb→le}
 use lib.ListN.{length}
-use Rattle.bytes_at.specs.Stages.{_▷_, orNo}
-use Rattle.bytes_at.proofs.Stages.{then-left, then-right, or-passed, stops, goes, regroup, no-is, yes-is}
+use Rattle.bytes_at.specs.Stages.{noRefusal, blaming, _▷_, orNo}
+use Rattle.bytes_at.specs.declared.Refusal.{Refusal}
+use Rattle.bytes_at.proofs.Stages.{then-left, then-right, or-passed, stops, goes, regroup, no-is, passes}
 use Rattle.buckets.specs.Area.{Area}
 use Rattle.standard_rules.specs.Header.{bucketStart}
 use Rattle.standard_rules.specs.Index.{freeOk}
@@ -32,10 +33,10 @@ use Rattle.incremental_rules.proofs.Numbers.{index-read}
 use Rattle.incremental.specs.Check.{beforeIndex, refusedFile}
 
 -- ---- what the first stages show
-pub area-passed : (refused : ℕ) (h : Header) (f : List ℕ) → HeaderBounds h → beforeIndex refused h (length f) ≡ 0 → Area f (h .size) (h .count)
+pub area-passed : (refused : Refusal) (h : Header) (f : List ℕ) → HeaderBounds h → {n : Refusal} → n ≡ beforeIndex refused h (length f) → n .number ≡ 0 → Area f (h .size) (h .count)
 unfolding beforeIndex
-area-passed refused h f b z = record {
-  holds = leb→le _ _ (or-passed (longEnough (length f) (h .size) (h .count)) 0 (then-right _ _ (then-right _ _ z)));
+area-passed refused h f b e y = let z = rw e at y in record {
+  holds = leb→le _ _ (or-passed (longEnough (length f) (h .size) (h .count)) 0 _ (then-right _ _ (then-right _ _ z)));
   least = b .size-least (then-left _ _ (then-right _ _ z));
   most = b .size-most;
   few = b .count-most;
@@ -49,7 +50,7 @@ buckets-inside rows f h x a e z i l =
 
 -- ---- the whole refusal, and what is answered. h is the header that was read, and n, x, g, m, cells and found what was found on
 -- the way.
-module _ (d : Description) (sequence : ℕ) (f : List ℕ) (refused position row : ℕ) (h : Header) (e : h ≡ headerAt f (d .big)) where
+module _ (d : Description) (sequence : ℕ) (f : List ℕ) (refused : Refusal) (position row : ℕ) (h : Header) (e : h ≡ headerAt f (d .big)) where
   abbrev Says : Checked → Type 0
   Says r = r ≡ checkedAs d sequence f refused position row
 
@@ -59,7 +60,7 @@ module _ (d : Description) (sequence : ℕ) (f : List ℕ) (refused position row
   abbrev right : Index → Bool
   right x = indexFits (d .rows) f h x
 
-  abbrev searched : Index → ℕ
+  abbrev searched : Index → Refusal
   searched x = searchOf (d .big) f (h .size) x (cellsOf d sequence 0) 0 .refused
 
   staged : refusalOf d sequence f refused
@@ -67,30 +68,30 @@ module _ (d : Description) (sequence : ℕ) (f : List ℕ) (refused position row
   unfolding refusalOf beforeIndex
   staged = rw e (sym (rw (regroup, regroup)))
 
-  out : (n : ℕ) {r : Checked} → refusalOf d sequence f refused ≡ n → (n ≡ 0 → ⊥) → r ≡ refusedFile n → Says r
+  out : (n : Refusal) {r : Checked} → refusalOf d sequence f refused ≡ n → (n .number ≡ 0 → ⊥) → r ≡ refusedFile n → Says r
   unfolding checkedAs refusedFile
-  out n q z p = p ∙ sym (rw (q, ne-eqb n 0 z))
+  out n q z p = p ∙ sym (rw (q, ne-eqb (n .number) 0 z))
 
-  pub out-first : (n : ℕ) {r : Checked} → n ≡ beforeIndex refused h (length f) → (n ≡ 0 → ⊥) → r ≡ refusedFile n → Says r
+  pub out-first : (n : Refusal) {r : Checked} → n ≡ beforeIndex refused h (length f) → (n .number ≡ 0 → ⊥) → r ≡ refusedFile n → Says r
   out-first n q z p = out n (staged ∙ rw (← q) (stops n _ z)) z p
 
-  module _ {n : ℕ} (q : n ≡ beforeIndex refused h (length f)) (z : n ≡ 0) {x : Index} (y : x ≡ indexOf f h) where
+  module _ {n : Refusal} (q : n ≡ beforeIndex refused h (length f)) (z : n .number ≡ 0) {x : Index} (y : x ≡ indexOf f h) where
     after-first : refusalOf d sequence f refused ≡ x .refused ▷ (orNo freed 10 ▷ (orNo (right x) 11 ▷ searched x))
-    after-first = staged ∙ goes _ _ (sym q ∙ z) ∙ rw y
+    after-first = staged ∙ goes _ _ (rw q at z) ∙ rw y
 
-    pub out-index : {r : Checked} → (x .refused ≡ 0 → ⊥) → r ≡ refusedFile (x .refused) → Says r
+    pub out-index : {r : Checked} → (x .refused .number ≡ 0 → ⊥) → r ≡ refusedFile (x .refused) → Says r
     out-index w p = out (x .refused) (after-first ∙ stops (x .refused) _ w) w p
 
-    module _ (w : x .refused ≡ 0) where
-      pub out-free : {g : Bool} {r : Checked} → g ≡ freed → g ≡ false → r ≡ refusedFile 10 → Says r
-      out-free c k p = out 10 (after-first ∙ goes _ _ w ∙ rw (no-is freed 10 (sym c ∙ k)) (stops 10 _ (omega arith))) (omega arith) p
+    module _ (w : x .refused .number ≡ 0) where
+      pub out-free : {g : Bool} {r : Checked} → g ≡ freed → g ≡ false → r ≡ refusedFile (blaming 10 0) → Says r
+      out-free c k p = out (blaming 10 0) (after-first ∙ goes _ _ w ∙ rw (no-is freed 10 0 (sym c ∙ k)) (stops (blaming 10 0) _ (omega arith))) (omega arith) p
 
       module _ {g : Bool} (c : g ≡ freed) (k : g ≡ true) where
         after-free : refusalOf d sequence f refused ≡ orNo (right x) 11 ▷ searched x
-        after-free = after-first ∙ goes _ _ w ∙ goes _ _ (yes-is freed 10 (sym c ∙ k))
+        after-free = after-first ∙ goes _ _ w ∙ goes _ _ (passes freed 10 0 (sym c ∙ k))
 
-        pub out-map : {m : Bool} {r : Checked} → m ≡ right x → m ≡ false → r ≡ refusedFile 11 → Says r
-        out-map v j p = out 11 (after-free ∙ rw (no-is (right x) 11 (sym v ∙ j)) (stops 11 _ (omega arith))) (omega arith) p
+        pub out-map : {m : Bool} {r : Checked} → m ≡ right x → m ≡ false → r ≡ refusedFile (blaming 11 0) → Says r
+        out-map v j p = out (blaming 11 0) (after-free ∙ rw (no-is (right x) 11 0 (sym v ∙ j)) (stops (blaming 11 0) _ (omega arith))) (omega arith) p
 
         module _ {m : Bool} (v : m ≡ right x) (j : m ≡ true) {cells : Cells} (u : cells ≡ cellsOf d sequence position)
             {found : Found} (s : found ≡ searchOf (d .big) f (h .size) x cells row) where
@@ -99,11 +100,11 @@ module _ (d : Description) (sequence : ℕ) (f : List ℕ) (refused position row
           any = rw (s, u) (search-same (d .big) f (h .size) x _ _ 0 row (cells-same (d .columns) (d .bindings) sequence 0 position (d .«column_count»)))
 
           after-map : refusalOf d sequence f refused ≡ found .refused
-          after-map = after-free ∙ goes _ _ (yes-is (right x) 11 (sym v ∙ j)) ∙ any
+          after-map = after-free ∙ goes _ _ (passes (right x) 11 0 (sym v ∙ j)) ∙ any
 
-          pub out-bucket : {r : Checked} → (found .refused ≡ 0 → ⊥) → r ≡ refusedFile (found .refused) → Says r
+          pub out-bucket : {r : Checked} → (found .refused .number ≡ 0 → ⊥) → r ≡ refusedFile (found .refused) → Says r
           out-bucket o p = out (found .refused) after-map o p
 
-          pub accepted : found .refused ≡ 0 → Says (record { refused = 0; size = h .size; first = 8 * (found .start + 4 + found .offset) })
+          pub accepted : found .refused .number ≡ 0 → Says (record { refused = noRefusal; size = h .size; first = 8 * (found .start + 4 + found .offset) })
           unfolding checkedAs
-          accepted o = sym (rw (after-map ∙ o, ← e, ← y, ← u, ← s))
+          accepted o = sym (rw (after-map, eq-eqb (found .refused .number) 0 o, ← e, ← y, ← u, ← s))

@@ -8,7 +8,7 @@ use Rattle.incremental_rules.specs.declared.Index.{Index}
 pub record HeaderBounds (h : Header) : Type 0 where
   pub size-most : h .size ≤ 1048576
   pub count-most : h .count ≤ 4096
-  pub size-least : h .refused ≡ 0 → 16 ≤ h .size
+  pub size-least : h .refused .number ≡ 0 → 16 ≤ h .size
 
 -- the numbers without a range are uInts
 pub record HeaderWords (h : Header) : Type 0 where

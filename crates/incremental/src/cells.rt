@@ -1,5 +1,5 @@
-// The columns that an IncrementalStMan keeps, and the pass over its buckets, which finds the cell that is asked for (document
-// 01, "IncrementalStMan").
+// The columns that an IncrementalStMan keeps, and the pass over its buckets, which finds the cell that is asked for (RULES.md
+// 6.5).
 ghost use Prim.Native.Nat.{_≤_, ℕ, _+_, _<_};
 ghost use lib.ListN.{length};
 ghost use mathlib.Core.Bool.{true};
@@ -8,12 +8,13 @@ ghost use Rattle.incremental.specs.Bounds.{IndexInside};
 ghost use Rattle.standard_rules.specs.Header.{bucketStart};
 ghost use Rattle.bytes_at.specs.Number.{numberIn};
 ghost use Rattle.incremental_rules.specs.Check.{searchOf};
+use bytes_at::Refusal;
 use incremental_rules::Cells;
 use incremental_rules::Found;
 use incremental_rules::Index;
 
-// The buckets in index order, which all lie in the file, up to the first that is refused. Gives the start of the row's bucket, and the offset of the row's
-// value in the column.
+// The buckets in index order, which all lie in the file, up to the first that is refused. Gives the start of the row's bucket, and
+// the offset of the row's value in the column.
 pub fn find_cell(f: &[u8], big: bool, size: usize, x: Index, cells: Cells, row: usize) -> Found
     requires { ⌜ (size ≤ 1048576) × (cells .count ≤ 64) ⌝ }
     requires { ⌜ IndexInside (length (now f)) 4 x ⌝ }
@@ -49,7 +50,7 @@ pub fn find_cell(f: &[u8], big: bool, size: usize, x: Index, cells: Cells, row: 
             return Found {
                 start: 0,
                 offset: 0,
-                refused: refused,
+                refused: aipsio::refusal(one.next),
             };
         }
         start = incremental_bucket::values::choose(first <= row, at, start);
@@ -59,6 +60,6 @@ pub fn find_cell(f: &[u8], big: bool, size: usize, x: Index, cells: Cells, row: 
     Found {
         start: start,
         offset: offset,
-        refused: 0,
+        refused: Refusal { number: 0, byte: 0 },
     }
 }

@@ -4,6 +4,7 @@ ghost use Prim.Native.Nat.{_<_};
 ghost use Rattle.incremental_rules.specs.Header.{fieldsAt, headed, headerAt};
 ghost use Rattle.incremental.specs.Bounds.{HeaderBounds, HeaderWords};
 use aipsio_rules::Cursor;
+use bytes_at::Refusal;
 use bytes_at::Width;
 use incremental_rules::Header;
 use incremental_rules::HeaderFields;
@@ -34,7 +35,7 @@ fn read_fields(s: &[u8], c: Cursor, big: bool) -> HeaderFields
     }
 }
 
-// The header, or zeros and the number where the cursor is refused.
+// The header, or zeros and the refusal where the cursor is refused.
 fn answer_header(c: Cursor, h: HeaderFields) -> Header
     ensures { λ r. ⌜ r ≡ headed c h ⌝ }
 {
@@ -45,7 +46,7 @@ fn answer_header(c: Cursor, h: HeaderFields) -> Header
             count: 0,
             free_count: 0,
             first_free: 0,
-            refused: refused,
+            refused: aipsio::refusal(c),
         };
     }
     Header {
@@ -53,7 +54,7 @@ fn answer_header(c: Cursor, h: HeaderFields) -> Header
         count: h.count,
         free_count: h.free_count,
         first_free: h.first_free,
-        refused: 0,
+        refused: Refusal { number: 0, byte: 0 },
     }
 }
 

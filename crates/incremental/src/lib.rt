@@ -9,34 +9,38 @@ ghost use Prim.Native.Nat.{_≤_};
 ghost use mathlib.Core.Path.{_≡_};
 ghost use Rattle.incremental.specs.Check.{beforeIndex, refusedFile};
 ghost use Rattle.incremental_rules.specs.Check.{checkedAs};
+use bytes_at::Refusal;
 use incremental_rules::Checked;
 use incremental_rules::Header;
 use table_rules::Description;
 
 // The refusal before the index is looked at: the one so far, the header's, the file's length (1).
-fn before_index(refused: usize, h: Header, len: usize) -> usize
+fn before_index(refused: Refusal, h: Header, len: usize) -> Refusal
     requires { ⌜ (h .size ≤ 1048576) × (h .count ≤ 4096) ⌝ }
     ensures { λ r. ⌜ r ≡ beforeIndex refused h len ⌝ }
 {
     let own = h.refused;
-    if refused != 0 {
+    if refused.number != 0 {
         return refused;
     }
-    if own != 0 {
+    if own.number != 0 {
         return own;
     }
     if !buckets::file::long_enough(len, h.size, h.count) {
-        return 1;
+        return Refusal {
+            number: 1,
+            byte: len,
+        };
     }
-    0
+    Refusal { number: 0, byte: 0 }
 }
 
-// A refused file: its number and zeros.
-fn refuse(number: usize) -> Checked
-    ensures { λ r. ⌜ r ≡ refusedFile number ⌝ }
+// A refused file: the refusal and zeros.
+fn refuse(why: Refusal) -> Checked
+    ensures { λ r. ⌜ r ≡ refusedFile why ⌝ }
 {
     Checked {
-        refused: number,
+        refused: why,
         size: 0,
         first: 0,
     }
@@ -48,7 +52,7 @@ pub fn check(
     d: Description,
     f: &[u8],
     sequence: usize,
-    refused: usize,
+    refused: Refusal,
     position: usize,
     row: usize,
 ) -> Checked
@@ -57,30 +61,36 @@ pub fn check(
 {
     let h = crate::header::read_header(f, d.big);
     let before = before_index(refused, h, f.len());
-    if before != 0 {
+    if before.number != 0 {
         return refuse(before);
     }
     let x = crate::text::read_index(f, 512 + h.count * h.size);
     let own = x.refused;
-    if own != 0 {
+    if own.number != 0 {
         return refuse(own);
     }
     if !buckets::free_list::free_list_ok(f, h.size, h.count, h.free_count, h.first_free) {
-        return refuse(10);
+        return refuse(Refusal {
+            number: 10,
+            byte: 0,
+        });
     }
     if !crate::index::index_fits(f, h, x, d.rows) {
-        return refuse(11);
+        return refuse(Refusal {
+            number: 11,
+            byte: 0,
+        });
     }
     let columns = d.columns;
     let bindings = d.bindings;
     let cells = crate::columns::gather_cells(columns, bindings, d.column_count, sequence, position);
     let found = crate::cells::find_cell(f, d.big, h.size, x, cells, row);
     let wrong = found.refused;
-    if wrong != 0 {
+    if wrong.number != 0 {
         return refuse(wrong);
     }
     Checked {
-        refused: 0,
+        refused: Refusal { number: 0, byte: 0 },
         size: h.size,
         first: 8 * (found.start + 4 + found.offset),
     }

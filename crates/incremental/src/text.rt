@@ -4,9 +4,10 @@ ghost use lib.ListN.{length};
 ghost use Rattle.incremental_rules.specs.Index.{indexed, indexAt};
 ghost use Rattle.incremental.specs.Bounds.{IndexInside};
 use aipsio_rules::Cursor;
+use bytes_at::Refusal;
 use incremental_rules::Index;
 
-// The index, or zeros and the number where the cursor is refused.
+// The index, or zeros and the refusal where the cursor is refused.
 fn answer_index(c: Cursor, count: usize, firsts: usize, buckets: usize) -> Index
     ensures { λ r. ⌜ r ≡ indexed c count firsts buckets ⌝ }
 {
@@ -16,21 +17,21 @@ fn answer_index(c: Cursor, count: usize, firsts: usize, buckets: usize) -> Index
             count: 0,
             firsts: 0,
             buckets: 0,
-            refused: refused,
+            refused: aipsio::refusal(c),
         };
     }
     Index {
         count: count,
         firsts: firsts,
         buckets: buckets,
-        refused: 0,
+        refused: Refusal { number: 0, byte: 0 },
     }
 }
 
 // The ISMIndex with its mark, from a place of the file on. Where it is not refused, both its lists lie in the file.
 pub fn read_index(f: &[u8], at: usize) -> Index
     ensures { λ r. ⌜ r ≡ indexAt (now (f .entry)) at ⌝ }
-    ensures inside { λ r. ⌜ (r .refused ≡ 0 → IndexInside (length (now (f .entry))) 4 r) ⌝ }
+    ensures inside { λ r. ⌜ (r .refused .number ≡ 0 → IndexInside (length (now (f .entry))) 4 r) ⌝ }
 {
     let start = Cursor {
         at: at,

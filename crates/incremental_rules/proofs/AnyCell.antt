@@ -8,8 +8,9 @@ use native.Mathlib.Decide.{ℕ-discrete}
 use lib.ListN.{getD}
 use borrow.Author.Tests.{eq-eqb, ne-eqb}
 use Rattle.bytes_at.specs.Steps.{after, _>>=_}
+use Rattle.bytes_at.specs.declared.Refusal.{Refusal}
 use Rattle.bytes_at.specs.Stages.{_▷_}
-use Rattle.aipsio_rules.specs.declared.Cursor.{Cursor}
+use Rattle.aipsio_rules.specs.Field.{refusalIn}
 use Rattle.table_rules.specs.declared.Column.{Column}
 use Rattle.table_rules.specs.declared.Binding.{Binding}
 use Rattle.table_rules.specs.ColumnSet.{noBinding}
@@ -42,20 +43,16 @@ module _ (cs : List Column) (bs : List Binding) (sequence position position′ :
   cells-same (suc n) = cell-same _ _ n (cells-same n)
 
 -- a refusal is kept as it is
-pub found-refused : (refused start offset : ℕ) → foundAs refused start offset .refused ≡ refused
+pub found-refused : (refused : Refusal) (start offset : ℕ) → foundAs refused start offset .refused ≡ refused
 unfolding foundAs
-found-refused refused start offset =
-    elim (ℕ-discrete refused 0) [
-      | yes e ↦ rw (eq-eqb refused 0 e) (sym e)
-      | no e ↦ rw (ne-eqb refused 0 e)
-    ]
+found-refused refused start offset = refl
 
 module _ (big : Bool) (f : List ℕ) (size : ℕ) (x : Index) where
   -- what bucket i of the index is refused with
-  abbrev refusedIn : Cells → ℕ → ℕ → ℕ
+  abbrev refusedIn : Cells → ℕ → ℕ → Refusal
   refusedIn cells row i =
       let first = numberIn true 4 f (x .firsts) i in
-      bucketAt f (bucketStart size (numberIn true 4 f (x .buckets) i)) size big (numberIn true 4 f (x .firsts) (i + 1) - first) (row - first) (cells .column) (cells .bytes) (cells .count) .next .refused
+      refusalIn (bucketAt f (bucketStart size (numberIn true 4 f (x .buckets) i)) size big (numberIn true 4 f (x .firsts) (i + 1) - first) (row - first) (cells .column) (cells .bytes) (cells .count) .next)
 
   pub turn-refused : (cells : Cells) (row : ℕ) (found : Found) (i : ℕ) → bucketInto big f size x cells row found i .refused ≡ found .refused ▷ refusedIn cells row i
   unfolding bucketInto _>>=_
@@ -63,7 +60,7 @@ module _ (big : Bool) (f : List ℕ) (size : ℕ) (x : Index) where
 
   same-refused : (a b : Cells) (row row′ i : ℕ) → SameCells a b → refusedIn a row i ≡ refusedIn b row′ i
   same-refused a b row row′ i v =
-      rw (v .bytes, v .count) (ap (λ (c : Cursor). c .refused) (any-cell f _ size big _ _ _ (a .column) (b .column) (b .bytes) (b .count)))
+      rw (v .bytes, v .count) (ap refusalIn (any-cell f _ size big _ _ _ (a .column) (b .column) (b .bytes) (b .count)))
 
   turns-same : (a b : Cells) (row row′ : ℕ) → SameCells a b → (n : ℕ)
       → after (bucketInto big f size x a row) nothing n .refused ≡ after (bucketInto big f size x b row′) nothing n .refused
@@ -71,8 +68,8 @@ module _ (big : Bool) (f : List ℕ) (size : ℕ) (x : Index) where
   turns-same a b row row′ v zero = refl
   turns-same a b row row′ v (suc n) =
       turn-refused a row _ n
-      ∙ ap (λ (r : ℕ). r ▷ refusedIn a row n) (turns-same a b row row′ v n)
-      ∙ ap (λ (r : ℕ). after (bucketInto big f size x b row′) nothing n .refused ▷ r) (same-refused a b row row′ n v)
+      ∙ ap (λ (r : Refusal). r ▷ refusedIn a row n) (turns-same a b row row′ v n)
+      ∙ ap (λ (r : Refusal). after (bucketInto big f size x b row′) nothing n .refused ▷ r) (same-refused a b row row′ n v)
       ∙ sym (turn-refused b row′ _ n)
 
   pub search-same : (a b : Cells) (row row′ : ℕ) → SameCells a b → searchOf big f size x a row .refused ≡ searchOf big f size x b row′ .refused

@@ -1,6 +1,6 @@
--- A file is not refused exactly when it is accepted: each stage passes exactly when its facts hold.
+-- A file is not refused exactly when it is accepted: each stage passes exactly when its facts hold; and then no byte is told.
 -- Assumes nothing.
-use mathlib.Core.Path.{_≡_, refl, sym, _∙_}
+use mathlib.Core.Path.{_≡_, refl, ap, _∙_}
 use mathlib.Core.List.{List}
 use mathlib.Core.Bool.{Bool}
 use Prim.Native.Nat.{ℕ, zero, suc, _≤_, _<_, zero-le}
@@ -12,7 +12,8 @@ use lib.Dec.{leb→le, le→leb}
 use borrow.Author.Tests.{eq-eqb, ne-eqb}
 use Rattle.bytes_at.specs.Steps.{after, _>>=_}
 use Rattle.bytes_at.proofs.Tests.{is-true}
-use Rattle.bytes_at.proofs.Stages.{then-left, then-right, or-passed, goes, yes-is}
+use Rattle.bytes_at.specs.declared.Refusal.{Refusal}
+use Rattle.bytes_at.proofs.Stages.{then-left, then-right, or-passed, goes, passes, Clear, clear-then, clear-blaming}
 use Rattle.aipsio_rules.specs.declared.Cursor.{Cursor}
 use Rattle.aipsio_rules.proofs.Bounds.{ranged-le}
 use Rattle.table_rules.specs.declared.Description.{Description}
@@ -45,23 +46,23 @@ header-few f big = headed-few _ _ (fields-few f _ big)
 
 -- ---- the buckets are not refused exactly when none of them is
 module _ (big : Bool) (f : List ℕ) (size : ℕ) (x : Index) (cells : Cells) (row : ℕ) where
-  each-clean : (n : ℕ) → after (bucketInto big f size x cells row) nothing n .refused ≡ 0
+  each-clean : (n : ℕ) → after (bucketInto big f size x cells row) nothing n .refused .number ≡ 0
       → (i : ℕ) → i < n → bucketIn big f size x cells row i .next .refused ≡ 0
   unfolding after
   each-clean zero e i l = absurd (not-suc-le-zero l)
   each-clean (suc n) e i l =
-      let t = sym (turn-refused big f size x cells row _ n) ∙ e in
+      let t = rw (turn-refused big f size x cells row _ n) at e in
       elim (ℕ-discrete i n) [ yes q ↦ rw q (then-right _ _ t) | no q ↦ each-clean n (then-left _ _ t) i (omega arith) ]
 
   all-clean : (n : ℕ) → ((i : ℕ) → i < n → bucketIn big f size x cells row i .next .refused ≡ 0)
-      → after (bucketInto big f size x cells row) nothing n .refused ≡ 0
+      → after (bucketInto big f size x cells row) nothing n .refused .number ≡ 0
   unfolding after
   all-clean zero h = refl
   all-clean (suc n) h =
-      turn-refused big f size x cells row _ n ∙ goes _ _ (all-clean n (λ i l. h i (omega arith))) ∙ h n (omega arith)
+      ap (λ (r : Refusal). r .number) (turn-refused big f size x cells row _ n ∙ goes _ _ (all-clean n (λ i l. h i (omega arith)))) ∙ h n (omega arith)
 
 -- ---- the stages
-module _ (d : Description) (sequence : ℕ) (f : List ℕ) (refused : ℕ) where
+module _ (d : Description) (sequence : ℕ) (f : List ℕ) (refused : Refusal) where
   abbrev header : Header
   header = headerAt f (d .big)
 
@@ -71,7 +72,7 @@ module _ (d : Description) (sequence : ℕ) (f : List ℕ) (refused : ℕ) where
   abbrev cells : Cells
   cells = cellsOf d sequence 0
 
-  accepted : refusalOf d sequence f refused ≡ 0 → (refused ≡ 0) × Accepted d sequence f
+  accepted : refusalOf d sequence f refused .number ≡ 0 → (refused .number ≡ 0) × Accepted d sequence f
   unfolding refusalOf searchOf
   accepted z =
       let a = then-right _ _ z in
@@ -83,25 +84,42 @@ module _ (d : Description) (sequence : ℕ) (f : List ℕ) (refused : ℕ) where
         then-left _ _ z,
         record {
           header = then-left _ _ a;
-          long = leb→le _ _ (or-passed (longEnough (length f) (header .size) (header .count)) 0 (then-left _ _ b));
+          long = leb→le _ _ (or-passed (longEnough (length f) (header .size) (header .count)) 0 _ (then-left _ _ b));
           index = then-left _ _ c;
-          free = or-passed _ 9 (then-left _ _ e);
-          numbers = index-read (d .rows) f header index (or-passed _ 10 (then-left _ _ g));
+          free = or-passed _ 9 _ (then-left _ _ e);
+          numbers = index-read (d .rows) f header index (or-passed _ 10 _ (then-left _ _ g));
           buckets = λ i l. bucket-read f _ _ _ _ _ _ _ _ (clean i l) .accepted;
         },
       )
 
-  not-refused : (refused ≡ 0) × Accepted d sequence f → refusalOf d sequence f refused ≡ 0
+  not-refused : (refused .number ≡ 0) × Accepted d sequence f → refusalOf d sequence f refused .number ≡ 0
   unfolding refusalOf searchOf
   not-refused v =
       let a = v .1 in
+      ap (λ (r : Refusal). r .number) (
       goes _ _ (v .0)
       ∙ goes _ _ (a .header)
-      ∙ goes _ _ (yes-is _ 1 (is-true _ (le→leb _ _ (a .long))))
+      ∙ goes _ _ (passes _ 1 _ (is-true _ (le→leb _ _ (a .long))))
       ∙ goes _ _ (a .index)
-      ∙ goes _ _ (yes-is _ 10 (is-true _ (a .free)))
-      ∙ goes _ _ (yes-is _ 11 (is-true _ (index-passes (d .rows) f header index (a .numbers) (header-few f (d .big)) (a .free))))
+      ∙ goes _ _ (passes _ 10 _ (is-true _ (a .free)))
+      ∙ goes _ _ (passes _ 11 _ (is-true _ (index-passes (d .rows) f header index (a .numbers) (header-few f (d .big)) (a .free)))))
       ∙ all-clean (d .big) f (header .size) index cells 0 (index .count) (λ i l. bucket-on f _ _ _ _ _ _ _ _ (a .buckets i l))
 
 pub accepted-exactly : AcceptedExactly
 accepted-exactly d sequence f refused = (accepted d sequence f refused, not-refused d sequence f refused)
+
+-- ---- where nothing is refused, no byte is told
+module _ (big : Bool) (f : List ℕ) (size : ℕ) (x : Index) (cells : Cells) (row : ℕ) where
+  turns-clear : (n : ℕ) → Clear (after (bucketInto big f size x cells row) nothing n .refused)
+  unfolding after
+  turns-clear zero = λ z. refl
+  turns-clear (suc n) = rw (turn-refused big f size x cells row (after (bucketInto big f size x cells row) nothing n) n) (clear-then _ _ (clear-blaming _ _))
+
+  search-clear : Clear (searchOf big f size x cells row .refused)
+  unfolding searchOf
+  search-clear = turns-clear (x .count)
+
+pub refusal-clear : (d : Description) (sequence : ℕ) (f : List ℕ) (refused : Refusal) → Clear (refusalOf d sequence f refused)
+unfolding refusalOf
+refusal-clear d sequence f refused =
+    clear-then _ _ (clear-then _ _ (clear-then _ _ (clear-then _ _ (clear-then _ _ (clear-then _ _ (search-clear _ _ _ _ _ _))))))

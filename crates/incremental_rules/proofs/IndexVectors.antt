@@ -5,6 +5,7 @@ use mathlib.Core.List.{List, [], _∷_, _++_}
 use mathlib.Core.Bool.{true, false}
 use Prim.Native.Nat.{ℕ}
 use lib.ListN.{take, set}
+use Rattle.bytes_at.specs.Stages.{noRefusal, blaming}
 use Rattle.bytes_at.specs.Number.{bigFrom, uintOf, bigBytes}
 use Rattle.bytes_at.specs.Bytes.{sameBytes}
 use Rattle.bytes_at.specs.Steps.{_>>=_}
@@ -31,34 +32,34 @@ object =
     ++ bigBytes 16 0x1d00000005426c6f636b000000010000
     ++ bigBytes 10 0x00020000000100000000
 
-pub header-read : headerAt header true ≡ record { size = 64; count = 3; «free_count» = 1; «first_free» = 2; refused = 0 }
+pub header-read : headerAt header true ≡ record { size = 64; count = 3; «free_count» = 1; «first_free» = 2; refused = noRefusal }
 unfolding bigFrom uintOf sameBytes skipped judged settled sizedAt uintAt rangedAt markAt textBefore textAt nameAt entered opened closed fieldsAt headed headerIn _>>=_
 header-read = refl
 
 -- a file that ends in the header; the mark; version 4; a Bool of 2; the other endianness; a bucket size of 15; an object that is
 -- longer than its fields
 pub header-faults :
-    (headerAt (take 56 header) true .refused ≡ 1)
-    × (headerAt (set header 3 0) true .refused ≡ 2)
-    × (headerAt (set header 31 4) true .refused ≡ 3)
-    × (headerAt (set header 32 2) true .refused ≡ 5)
-    × (headerAt header false .refused ≡ 6)
-    × (headerAt (set header 36 15) true .refused ≡ 4)
-    × (headerAt (set header 7 54 ++ (0 ∷ [])) true .refused ≡ 7)
+    (headerAt (take 56 header) true .refused ≡ blaming 1 4)
+    × (headerAt (set header 3 0) true .refused ≡ blaming 2 0)
+    × (headerAt (set header 31 4) true .refused ≡ blaming 3 28)
+    × (headerAt (set header 32 2) true .refused ≡ blaming 5 32)
+    × (headerAt header false .refused ≡ blaming 6 32)
+    × (headerAt (set header 36 15) true .refused ≡ blaming 4 33)
+    × (headerAt (set header 7 54 ++ (0 ∷ [])) true .refused ≡ blaming 7 4)
 unfolding bigFrom uintOf sameBytes skipped judged settled sizedAt uintAt rangedAt markAt textBefore textAt nameAt entered opened closed fieldsAt headed headerIn _>>=_
 header-faults = (refl, refl, refl, refl, refl, refl, refl)
 
-pub index-read : indexAt (object ++ (0 ∷ [])) 0 ≡ record { count = 2; firsts = 49; buckets = 82; refused = 0 }
+pub index-read : indexAt (object ++ (0 ∷ [])) 0 ≡ record { count = 2; firsts = 49; buckets = 82; refused = noRefusal }
 unfolding bigFrom uintOf sameBytes skipped skippedEach judged settled sizedAt uintAt rangedAt agreed markAt textBefore textAt nameAt entered opened closed blockAt indexed indexIn _>>=_
 index-read = refl
 
 -- a file that ends in the last Block; a place past its end; version 2; a count that the Blocks do not have; an object that is
 -- longer than its fields
 pub index-faults :
-    (indexAt (take 89 object) 0 .refused ≡ 1)
-    × (indexAt object 91 .refused ≡ 1)
-    × (indexAt (set object 23 2) 0 .refused ≡ 3)
-    × (indexAt (set object 27 3) 0 .refused ≡ 6)
-    × (indexAt (set object 7 87 ++ (0 ∷ [])) 0 .refused ≡ 7)
+    (indexAt (take 89 object) 0 .refused ≡ blaming 1 4)
+    × (indexAt object 91 .refused ≡ blaming 1 91)
+    × (indexAt (set object 23 2) 0 .refused ≡ blaming 3 20)
+    × (indexAt (set object 27 3) 0 .refused ≡ blaming 6 45)
+    × (indexAt (set object 7 87 ++ (0 ∷ [])) 0 .refused ≡ blaming 7 4)
 unfolding bigFrom uintOf sameBytes skipped skippedEach judged settled sizedAt uintAt rangedAt agreed markAt textBefore textAt nameAt entered opened closed blockAt indexed indexIn _>>=_
 index-faults = (refl, refl, refl, refl, refl)

@@ -13,3 +13,4 @@ pub mod Exactly
 pub mod Places
 pub mod Vectors
 pub mod IndexVectors
+pub mod Blamed

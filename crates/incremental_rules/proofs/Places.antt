@@ -8,6 +8,7 @@ use native.Mathlib.Decide.{decLt}
 use native.Mathlib.Omega.{arith}
 use lib.ListN.{getD}
 use borrow.Author.Tests.{ne-eqb}
+use Rattle.bytes_at.specs.declared.Refusal.{Refusal}
 use Rattle.bytes_at.proofs.Stages.{then-right}
 use Rattle.table_rules.specs.ColumnDesc.{noColumn}
 use Rattle.table_rules.specs.ColumnSet.{noBinding}
@@ -34,7 +35,7 @@ use Rattle.incremental_rules.proofs.Exactly.{accepted-exactly}
 use Rattle.incremental_rules.proofs.Rows.{some-entry, from-first, entry-known, entry-from, entry-to}
 
 -- what no refusal says of the index and of the buckets
-module _ (d : Description) (sequence : ℕ) (f : List ℕ) (refused : ℕ) (z : refusalOf d sequence f refused ≡ 0) where
+module _ (d : Description) (sequence : ℕ) (f : List ℕ) (refused : Refusal) (z : refusalOf d sequence f refused .number ≡ 0) where
   abbrev header : Header
   header = headerAt f (d .big)
 
@@ -44,7 +45,7 @@ module _ (d : Description) (sequence : ℕ) (f : List ℕ) (refused : ℕ) (z : 
   numbers : IndexAccepted (d .rows) f header index
   numbers = accepted-exactly d sequence f refused .0 z .1 .numbers
 
-  none-refused : searchOf (d .big) f (header .size) index (cellsOf d sequence 0) 0 .refused ≡ 0
+  none-refused : searchOf (d .big) f (header .size) index (cellsOf d sequence 0) 0 .refused .number ≡ 0
   unfolding refusalOf
   none-refused = then-right _ _ (then-right _ _ (then-right _ _ (then-right _ _ (then-right _ _ (then-right _ _ z)))))
 
@@ -73,7 +74,7 @@ module _ (d : Description) (sequence : ℕ) (f : List ℕ) (refused : ℕ) (z : 
         search-found (d .big) f (header .size) index cells row
         (from-first (d .rows) f header index numbers row l)
         (some-entry (d .rows) f header index numbers row l)
-        (search-same (d .big) f (header .size) index cells (cellsOf d sequence 0) row 0 (cells-same (d .columns) (d .bindings) sequence position 0 (d .«column_count»)) ∙ none-refused)
+        (ap (λ (r : Refusal). r .number) (search-same (d .big) f (header .size) index cells (cellsOf d sequence 0) row 0 (cells-same (d .columns) (d .bindings) sequence position 0 (d .«column_count»))) ∙ none-refused)
 
     in-bucket : InBucket f start (header .size) (d .big) (firstRow f index (entry + 1) - firstRow f index entry) (row - firstRow f index entry) (cells .column) (cells .bytes) (cells .count) (bucketIn (d .big) f (header .size) index cells row entry .value)
     in-bucket = bucket-read f start (header .size) (d .big) _ (row - firstRow f index entry) (cells .column) (cells .bytes) (cells .count) (found-here .clean)

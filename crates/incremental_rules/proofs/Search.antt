@@ -10,6 +10,9 @@ use native.Mathlib.Omega.{arith}
 use lib.Dec.{leb}
 use borrow.Author.Tests.{eq-eqb}
 use Rattle.bytes_at.specs.Steps.{after, _>>=_}
+use Rattle.bytes_at.specs.declared.Refusal.{Refusal}
+use Rattle.bytes_at.specs.Stages.{_▷_}
+use Rattle.aipsio_rules.specs.Field.{refusalIn}
 use Rattle.bytes_at.proofs.Stages.{then-left, then-right}
 use Rattle.aipsio_rules.specs.declared.Value.{Value}
 use Rattle.standard_rules.specs.Header.{bucketStart}
@@ -23,9 +26,9 @@ use Rattle.incremental_rules.specs.Check.{foundAs, bucketInto, nothing, 
 use Rattle.incremental_rules.specs.Place.{entryOf}
 use Rattle.incremental_rules.proofs.AnyCell.{turn-refused}
 
-found-clean : (refused start offset : ℕ) → refused ≡ 0 → foundAs refused start offset ≡ record { start = start; offset = offset; refused = 0 }
+found-clean : (refused : Refusal) (start offset : ℕ) → refused .number ≡ 0 → foundAs refused start offset ≡ record { start = start; offset = offset; refused = refused }
 unfolding foundAs
-found-clean refused start offset h = rw (eq-eqb refused 0 h)
+found-clean refused start offset h = rw (eq-eqb (refused .number) 0 h)
 
 module _ (big : Bool) (f : List ℕ) (size : ℕ) (x : Index) (cells : Cells) (row : ℕ) where
   -- what bucket i of the index gives
@@ -42,40 +45,40 @@ module _ (big : Bool) (f : List ℕ) (size : ℕ) (x : Index) (cells : Cells) (r
     pub offset : found .offset ≡ bucketIn e .value
     pub clean : bucketIn e .next .refused ≡ 0
 
-  turn-is : (found : Found) (i : ℕ) → bucketInto big f size x cells row found i .refused ≡ 0
+  turn-is : (found : Found) (i : ℕ) → bucketInto big f size x cells row found i .refused .number ≡ 0
       → bucketInto big f size x cells row found i ≡ record {
         start = cond (notAbove i) (bucketStart size (bucketNumber f x i)) (found .start);
         offset = cond (notAbove i) (bucketIn i .value) (found .offset);
-        refused = 0;
+        refused = found .refused ▷ refusalIn (bucketIn i .next);
       }
   unfolding bucketInto _>>=_
-  turn-is found i e = found-clean _ _ _ (sym (turn-refused big f size x cells row found i) ∙ e)
+  turn-is found i e = found-clean _ _ _ (rw (turn-refused big f size x cells row found i) at e)
 
   search-more : (n : ℕ) (found : Found) → notAbove 0 ≡ true → (0 < n → FoundIn n (lastBelow notAbove n) found)
-      → bucketInto big f size x cells row found n .refused ≡ 0 → FoundIn (suc n) (lastBelow notAbove (suc n)) (bucketInto big f size x cells row found n)
+      → bucketInto big f size x cells row found n .refused .number ≡ 0 → FoundIn (suc n) (lastBelow notAbove (suc n)) (bucketInto big f size x cells row found n)
   unfolding lastBelow
   search-more n found z v e = rw (turn-is found n e) (go (notAbove n) refl)
     where
       go : (b : Bool) → notAbove n ≡ b → FoundIn (suc n) (cond (notAbove n) n (lastBelow notAbove n)) (record {
         start = cond (notAbove n) (bucketStart size (bucketNumber f x n)) (found .start);
         offset = cond (notAbove n) (bucketIn n .value) (found .offset);
-        refused = 0;
+        refused = found .refused ▷ refusalIn (bucketIn n .next);
       })
-      go true q = rw q (record { start = refl; offset = refl; clean = then-right _ _ (sym (turn-refused big f size x cells row found n) ∙ e) })
+      go true q = rw q (record { start = refl; offset = refl; clean = then-right _ _ (rw (turn-refused big f size x cells row found n) at e) })
       go false q =
           let p : 0 < n = elim (ℕ-discrete n 0) [ yes k ↦ absurd (false≢true (sym q ∙ ap notAbove k ∙ z)) | no k ↦ omega arith ] in
           let w = v p in
           rw q (record { start = w .start; offset = w .offset; clean = w .clean })
 
-  turns-found : (n : ℕ) → notAbove 0 ≡ true → after (bucketInto big f size x cells row) nothing n .refused ≡ 0
+  turns-found : (n : ℕ) → notAbove 0 ≡ true → after (bucketInto big f size x cells row) nothing n .refused .number ≡ 0
       → 0 < n → FoundIn n (lastBelow notAbove n) (after (bucketInto big f size x cells row) nothing n)
   unfolding after
   turns-found zero z e h = absurd (not-suc-le-zero h)
   turns-found (suc n) z e h =
       let found = after (bucketInto big f size x cells row) nothing n in
-      search-more n found z (turns-found n z (then-left _ _ (sym (turn-refused big f size x cells row found n) ∙ e))) e
+      search-more n found z (turns-found n z (then-left _ _ (rw (turn-refused big f size x cells row found n) at e))) e
 
-  pub search-found : notAbove 0 ≡ true → 0 < x .count → searchOf big f size x cells row .refused ≡ 0
+  pub search-found : notAbove 0 ≡ true → 0 < x .count → searchOf big f size x cells row .refused .number ≡ 0
       → FoundIn (x .count) (entryOf f x row) (searchOf big f size x cells row)
   unfolding searchOf
   search-found z h e = turns-found (x .count) z e h

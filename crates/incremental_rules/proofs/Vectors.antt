@@ -10,7 +10,8 @@ use lib.ListN.{take, set, replicate}
 use Rattle.bytes_at.specs.Number.{bigFrom, uintOf, numbersAt, bigBytes}
 use Rattle.bytes_at.specs.Bytes.{sameBytes}
 use Rattle.bytes_at.specs.Steps.{after, _>>=_}
-use Rattle.bytes_at.specs.Stages.{_▷_, orNo}
+use Rattle.bytes_at.specs.Stages.{noRefusal, blaming, _▷_, orAt}
+use Rattle.bytes_at.specs.declared.Refusal.{Refusal}
 use Rattle.aipsio_rules.specs.Field.{skipped, skippedEach, judged, settled, sizedAt, uintAt, rangedAt, agreed, markAt, textBefore, textAt, nameAt}
 use Rattle.aipsio_rules.specs.Object.{entered, opened, closed, blockAt}
 use Rattle.table_rules.specs.declared.Column.{Column}
@@ -67,7 +68,7 @@ kept sequence = record { sequence = sequence; set = 0; offset = 0 }
 
 abbrev table : Bool → Description
 table big = record {
-  refused = 0;
+  refused = noRefusal;
   rows = 7;
   «column_count» = 3;
   «manager_count» = 0;
@@ -77,47 +78,47 @@ table big = record {
   big = big;
 }
 
-abbrev refused : List ℕ → ℕ
-refused f = refusalOf (table true) 0 f 0
+abbrev refused : List ℕ → Refusal
+refused f = refusalOf (table true) 0 f noRefusal
 
 -- SCAN in rows 0, 2 and 6; FLAG in rows 5 and 6, a whole byte
 pub places :
-    (refused file ≡ 0)
+    (refused file ≡ noRefusal)
     × (placeOf (table true) 0 file 0 0 ≡ record { first = 4640; count = 32 })
     × (placeOf (table true) 0 file 0 2 ≡ record { first = 4672; count = 32 })
     × (placeOf (table true) 0 file 0 6 ≡ record { first = 4128; count = 32 })
     × (placeOf (table true) 0 file 2 5 ≡ record { first = 4160; count = 8 })
     × (placeOf (table true) 0 file 2 6 ≡ record { first = 4168; count = 8 })
-    × (checkedAs (table true) 0 file 0 2 6 ≡ record { refused = 0; size = 64; first = 4168 })
-    × (checkedAs (table true) 0 file 8 2 6 ≡ record { refused = 8; size = 0; first = 0 })
-unfolding bigFrom uintOf sameBytes skipped skippedEach judged settled sizedAt uintAt rangedAt agreed markAt textBefore textAt nameAt entered opened closed blockAt fieldsAt headed headerIn indexed indexIn links freeOk numbersAt all pairs allApart dataAt startFits started startInto startsAt offsetInto offsetsAt columnPartAt columnPartInto columnPartsAt bucketAt lastBelow partAt bitOf placeOf risesTo firstsFit indexFits cellInto cellsIn foundAs bucketInto searchOf refusalOf checkedAs noColumn noBinding _▷_ orNo after _>>=_
+    × (checkedAs (table true) 0 file noRefusal 2 6 ≡ record { refused = noRefusal; size = 64; first = 4168 })
+    × (checkedAs (table true) 0 file (blaming 8 0) 2 6 ≡ record { refused = blaming 8 0; size = 0; first = 0 })
+unfolding bigFrom uintOf sameBytes skipped skippedEach judged settled sizedAt uintAt rangedAt agreed markAt textBefore textAt nameAt entered opened closed blockAt fieldsAt headed headerIn indexed indexIn links freeOk numbersAt all pairs allApart dataAt startFits started startInto startsAt offsetInto offsetsAt columnPartAt columnPartInto columnPartsAt bucketAt lastBelow partAt bitOf placeOf risesTo firstsFit indexFits cellInto cellsIn foundAs bucketInto searchOf refusalOf checkedAs noColumn noBinding _▷_ orAt after _>>=_
 places = (refl, refl, refl, refl, refl, refl, refl, refl)
 
 -- a file that ends in the last bucket; the other endianness; Blocks shorter than the count; a free list that does not end; a free
 -- bucket in the index; a bucket out of range; first rows that end past the row count
 pub file-faults :
-    (refused (take 703 file) ≡ 1)
-    × (refusalOf (table false) 0 file 0 ≡ 6)
-    × (refused (set file 731 3) ≡ 6)
-    × (refused (set file 643 0) ≡ 10)
-    × (refused (set file 789 2) ≡ 11)
-    × (refused (set file 789 3) ≡ 11)
-    × (refused (set file 764 8) ≡ 11)
-unfolding bigFrom uintOf sameBytes skipped skippedEach judged settled sizedAt uintAt rangedAt agreed markAt textBefore textAt nameAt entered opened closed blockAt fieldsAt headed headerIn indexed indexIn links freeOk numbersAt all pairs allApart dataAt startFits started startInto startsAt offsetInto offsetsAt columnPartAt columnPartInto columnPartsAt bucketAt risesTo firstsFit indexFits cellInto cellsIn foundAs bucketInto searchOf refusalOf noColumn noBinding _▷_ orNo after _>>=_
+    (refused (take 703 file) ≡ blaming 1 703)
+    × (refusalOf (table false) 0 file noRefusal ≡ blaming 6 32)
+    × (refused (set file 731 3) ≡ blaming 6 749)
+    × (refused (set file 643 0) ≡ blaming 10 0)
+    × (refused (set file 789 2) ≡ blaming 11 0)
+    × (refused (set file 789 3) ≡ blaming 11 0)
+    × (refused (set file 764 8) ≡ blaming 11 0)
+unfolding bigFrom uintOf sameBytes skipped skippedEach judged settled sizedAt uintAt rangedAt agreed markAt textBefore textAt nameAt entered opened closed blockAt fieldsAt headed headerIn indexed indexIn links freeOk numbersAt all pairs allApart dataAt startFits started startInto startsAt offsetInto offsetsAt columnPartAt columnPartInto columnPartsAt bucketAt risesTo firstsFit indexFits cellInto cellsIn foundAs bucketInto searchOf refusalOf noColumn noBinding _▷_ orAt after _>>=_
 file-faults = (refl, refl, refl, refl, refl, refl, refl)
 
 -- in bucket 0, an index offset whose high byte is 1, of 3, of 65, and of 64, where the bucket ends; no value of SCAN; a first start
 -- of 1; a start at the bucket's row count, and one that does not rise; SCAN's value at offset 2, which ends the data part, and at 3
 pub bucket-faults :
-    (refused (set file 512 1) ≡ 3)
-    × (refused (set file 515 3) ≡ 11)
-    × (refused (set file 515 65) ≡ 11)
-    × (refused (set file 515 64) ≡ 1)
-    × (refused (set file 525 0) ≡ 11)
-    × (refused (set file 529 1) ≡ 11)
-    × (refused (set file 545 4) ≡ 11)
-    × (refused (set file 545 0) ≡ 11)
-    × (refused (set file 533 2) ≡ 0)
-    × (refused (set file 533 3) ≡ 11)
-unfolding bigFrom uintOf sameBytes skipped skippedEach judged settled sizedAt uintAt rangedAt agreed markAt textBefore textAt nameAt entered opened closed blockAt fieldsAt headed headerIn indexed indexIn links freeOk numbersAt all pairs allApart dataAt startFits started startInto startsAt offsetInto offsetsAt columnPartAt columnPartInto columnPartsAt bucketAt risesTo firstsFit indexFits cellInto cellsIn foundAs bucketInto searchOf refusalOf noColumn noBinding _▷_ orNo after _>>=_
+    (refused (set file 512 1) ≡ blaming 3 512)
+    × (refused (set file 515 3) ≡ blaming 11 0)
+    × (refused (set file 515 65) ≡ blaming 11 0)
+    × (refused (set file 515 64) ≡ blaming 1 576)
+    × (refused (set file 525 0) ≡ blaming 11 0)
+    × (refused (set file 529 1) ≡ blaming 11 0)
+    × (refused (set file 545 4) ≡ blaming 11 0)
+    × (refused (set file 545 0) ≡ blaming 11 0)
+    × (refused (set file 533 2) ≡ noRefusal)
+    × (refused (set file 533 3) ≡ blaming 11 0)
+unfolding bigFrom uintOf sameBytes skipped skippedEach judged settled sizedAt uintAt rangedAt agreed markAt textBefore textAt nameAt entered opened closed blockAt fieldsAt headed headerIn indexed indexIn links freeOk numbersAt all pairs allApart dataAt startFits started startInto startsAt offsetInto offsetsAt columnPartAt columnPartInto columnPartsAt bucketAt risesTo firstsFit indexFits cellInto cellsIn foundAs bucketInto searchOf refusalOf noColumn noBinding _▷_ orAt after _>>=_
 bucket-faults = (refl, refl, refl, refl, refl, refl, refl, refl, refl, refl)

@@ -7,7 +7,9 @@ use lib.Dec.{T, eqb, leb}
 use mathlib.Core.List.{List}
 use lib.ListN.{length}
 use Rattle.incremental_rules.specs.declared.Found.{Found}
-use Rattle.bytes_at.specs.Stages.{_▷_, orNo}
+use Rattle.bytes_at.specs.declared.Refusal.{Refusal}
+use Rattle.bytes_at.specs.Stages.{noRefusal, _▷_, orAt, orNo}
+use Rattle.aipsio_rules.specs.Field.{refusalIn}
 use Rattle.bytes_at.specs.Steps.{_>>=_, after}
 use Rattle.standard_rules.specs.Header.{bucketStart}
 use Rattle.bytes_at.specs.Number.{numberIn}
@@ -22,12 +24,11 @@ use Rattle.incremental_rules.specs.Header.{headerAt}
 use Rattle.incremental_rules.specs.Index.{firstRow, bucketNumber, indexFits, indexOf, IndexAccepted}
 use Rattle.incremental_rules.specs.declared.Checked.{Checked}
 
--- zeros and the number where a bucket is refused
-unfoldable pub foundAs : ℕ → ℕ → ℕ → Found
+-- zeros and the refusal where a bucket is refused
+unfoldable pub foundAs : Refusal → ℕ → ℕ → Found
 foundAs refused start offset =
-    cond (eqb refused 0)
-    (record { start = start; offset = offset; refused = 0 })
-    (record { start = 0; offset = 0; refused = refused })
+    let passes = eqb (refused .number) 0 in
+    record { start = cond passes start 0; offset = cond passes offset 0; refused = refused }
 
 -- bucket i of the index. The row's bucket is the last whose first row is not above it.
 unfoldable pub bucketInto : Bool → List ℕ → ℕ → Index → Cells → ℕ → Found → ℕ → Found
@@ -41,11 +42,11 @@ bucketInto big f size x cells row found i = do
   one ← bucketAt f at size big rows local (cells .column) (cells .bytes) (cells .count)
   start ← cond (leb first row) at (found .start)
   offset ← cond (leb first row) (one .value) (found .offset)
-  foundAs (found .refused ▷ one .next .refused) start offset
+  foundAs (found .refused ▷ refusalIn (one .next)) start offset
 
 -- nothing found, nothing refused
 abbrev pub nothing : Found
-nothing = record { start = 0; offset = 0; refused = 0 }
+nothing = record { start = 0; offset = 0; refused = noRefusal }
 
 -- "buckets in index order"
 unfoldable pub searchOf : Bool → List ℕ → ℕ → Index → Cells → ℕ → Found
@@ -53,13 +54,13 @@ searchOf big f size x cells row = after (bucketInto big f size x cells row) noth
 
 -- "Order: header, length, index object, free chain, bucket numbers and first rows, buckets in index order." `refused` is the
 -- refusal so far. The buckets are refused alike whatever cell is asked for (proofs/AnyCell.antt).
-unfoldable pub refusalOf : Description → ℕ → List ℕ → ℕ → ℕ
+unfoldable pub refusalOf : Description → ℕ → List ℕ → Refusal → Refusal
 refusalOf d sequence f refused =
     let h = headerAt f (d .big) in
     let x = indexOf f h in
     refused
     ▷ h .refused
-    ▷ orNo (longEnough (length f) (h .size) (h .count)) 1
+    ▷ orAt (longEnough (length f) (h .size) (h .count)) 1 (length f)
     ▷ x .refused
     ▷ orNo (freeOk f (h .size) (h .count) (h .«free_count») (h .«first_free»)) 10
     ▷ orNo (indexFits (d .rows) f h x) 11
@@ -68,11 +69,11 @@ refusalOf d sequence f refused =
 -- The chapter as facts, in the order of that sentence, of a file with header h and index x.
 pub record FileAccepted (d : Description) (sequence : ℕ) (f : List ℕ) (h : Header) (x : Index) : Type 0 where
   -- "header"
-  pub header : h .refused ≡ 0
+  pub header : h .refused .number ≡ 0
   -- "length": 1 where "the file is shorter than 512 + buckets x bucket size"
   pub long : 512 + h .count * h .size ≤ length f
   -- "index object"
-  pub index : x .refused ≡ 0
+  pub index : x .refused .number ≡ 0
   -- "free chain"
   pub free : T (freeOk f (h .size) (h .count) (h .«free_count») (h .«first_free»))
   -- "bucket numbers and first rows"
@@ -88,20 +89,21 @@ Accepted d sequence f = let h = headerAt f (d .big) in FileAccepted d sequence f
 -- Of every table and every file: nothing refuses exactly when nothing was refused before and the file is accepted.
 abbrev pub AcceptedExactly : Type 0
 AcceptedExactly =
-    (d : Description) (sequence : ℕ) (f : List ℕ) (refused : ℕ)
-    → (refusalOf d sequence f refused ≡ 0) ↔ ((refused ≡ 0) × Accepted d sequence f)
+    (d : Description) (sequence : ℕ) (f : List ℕ) (refused : Refusal)
+    → (refusalOf d sequence f refused .number ≡ 0) ↔ ((refused .number ≡ 0) × Accepted d sequence f)
 
 -- "each offset, counted from byte 4"
 abbrev pub firstBit : Found → ℕ
 firstBit found = 8 * (found .start + 4 + found .offset)
 
 -- What the check of the manager's file tells, where the cell at a position and a row is asked for; "A refusal carries its number
--- and zeros". A position without a column of the file, or a row that is not there, has no cell, and gives some number.
-unfoldable pub checkedAs : Description → ℕ → List ℕ → ℕ → ℕ → ℕ → Checked
+-- and zeros", and beside them its byte. A position without a column of the file, or a row that is not there, has no cell, and gives
+-- some number.
+unfoldable pub checkedAs : Description → ℕ → List ℕ → Refusal → ℕ → ℕ → Checked
 checkedAs d sequence f refused position row =
     let h = headerAt f (d .big) in
     let found = searchOf (d .big) f (h .size) (indexOf f h) (cellsOf d sequence position) row in
-    let number = refusalOf d sequence f refused in
-    cond (eqb number 0)
-    (record { refused = 0; size = h .size; first = firstBit found })
-    (record { refused = number; size = 0; first = 0 })
+    let why = refusalOf d sequence f refused in
+    cond (eqb (why .number) 0)
+    (record { refused = noRefusal; size = h .size; first = firstBit found })
+    (record { refused = why; size = 0; first = 0 })

@@ -6,8 +6,9 @@ use lib.Dec.{eqb}
 use lib.ListN.{length}
 use Rattle.bytes_at.specs.Bytes.{bytes}
 use Rattle.bytes_at.specs.Steps.{_>>=_}
+use Rattle.bytes_at.specs.Stages.{noRefusal}
 use Rattle.aipsio_rules.specs.declared.Cursor.{Cursor}
-use Rattle.aipsio_rules.specs.Field.{judged, uintAt, numberAt, flagAt, markAt}
+use Rattle.aipsio_rules.specs.Field.{refusalIn, judged, uintAt, numberAt, flagAt, markAt}
 use Rattle.aipsio_rules.specs.Object.{opened, closed}
 use Rattle.standard_rules.specs.Header.{sameEndian, headerRoom}
 use Rattle.incremental_rules.specs.declared.HeaderFields.{HeaderFields}
@@ -29,12 +30,12 @@ fieldsAt s c big = do
   first ← uintAt s (free .next)
   record { size = size .value; count = count .value; «free_count» = free .value; «first_free» = first .value; next = first .next }
 
--- "A refusal carries its number and zeros."
+-- "A refusal carries its number and zeros", and beside them its byte.
 unfoldable pub headed : Cursor → HeaderFields → Header
 headed c h =
     cond (eqb (c .refused) 0)
-    (record { size = h .size; count = h .count; «free_count» = h .«free_count»; «first_free» = h .«first_free»; refused = 0 })
-    (record { size = 0; count = 0; «free_count» = 0; «first_free» = 0; refused = c .refused })
+    (record { size = h .size; count = h .count; «free_count» = h .«free_count»; «first_free» = h .«first_free»; refused = noRefusal })
+    (record { size = 0; count = 0; «free_count» = 0; «first_free» = 0; refused = refusalIn c })
 
 -- the header of a file that is written in the byte order given, in a table of the endianness given
 unfoldable pub headerIn : List ℕ → Bool → Bool → Header

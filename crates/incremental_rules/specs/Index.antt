@@ -9,7 +9,8 @@ use Rattle.aipsio_rules.specs.declared.Cursor.{Cursor}
 use Rattle.incremental_rules.specs.declared.Index.{Index}
 use Rattle.bytes_at.specs.Bytes.{bytes}
 use Rattle.bytes_at.specs.Steps.{_>>=_}
-use Rattle.aipsio_rules.specs.Field.{uintAt, markAt}
+use Rattle.bytes_at.specs.Stages.{noRefusal}
+use Rattle.aipsio_rules.specs.Field.{refusalIn, uintAt, markAt}
 use Rattle.aipsio_rules.specs.Object.{opened, closed, blockAt}
 use Rattle.standard_rules.specs.Header.{bucketStart}
 use Rattle.incremental_rules.specs.declared.Header.{Header}
@@ -17,12 +18,12 @@ use Rattle.standard_rules.specs.Index.{links}
 use Rattle.bytes_at.specs.Number.{numberIn, numbersAt}
 use Rattle.bytes_at.specs.Lists.{allApart}
 
--- "A refusal carries its number and zeros."
+-- "A refusal carries its number and zeros", and beside them its byte.
 unfoldable pub indexed : Cursor → ℕ → ℕ → ℕ → Index
 indexed c count firsts buckets =
     cond (eqb (c .refused) 0)
-    (record { count = count; firsts = firsts; buckets = buckets; refused = 0 })
-    (record { count = 0; firsts = 0; buckets = 0; refused = c .refused })
+    (record { count = count; firsts = firsts; buckets = buckets; refused = noRefusal })
+    (record { count = 0; firsts = 0; buckets = 0; refused = refusalIn c })
 
 -- "The ISMIndex (version 1, with mark): count n, Block of n + 1 first rows, Block of n bucket numbers (omitted by the note);
 -- Block lengths that differ give 6", from a place on, in the byte order given, with first rows of so many bytes.

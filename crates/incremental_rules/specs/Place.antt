@@ -6,6 +6,7 @@ use mathlib.Core.Bool.{Bool, cond}
 use lib.Dec.{leb, eqb}
 use lib.ListN.{getD, length}
 use mathlib.Core.Path.{_≡_}
+use Rattle.bytes_at.specs.declared.Refusal.{Refusal}
 use Rattle.bytes_at.specs.Lists.{lastBelow}
 use Rattle.incremental_rules.specs.declared.Index.{Index}
 use Rattle.table_rules.specs.ColumnSet.{noBinding}
@@ -94,6 +95,6 @@ pub record Kept (d : Description) (sequence position : ℕ) : Type 0 where
 -- Of every accepted file, every row and every column of it that is no String.
 abbrev pub EveryPlace : Type 0
 EveryPlace =
-    (d : Description) (sequence : ℕ) (f : List ℕ) (refused : ℕ) → d .«column_count» ≤ 64 → refusalOf d sequence f refused ≡ 0
+    (d : Description) (sequence : ℕ) (f : List ℕ) (refused : Refusal) → d .«column_count» ≤ 64 → refusalOf d sequence f refused .number ≡ 0
     → (position row : ℕ) → Kept d sequence position → row < d .rows
     → Safe (d .big) f (headerAt f (d .big)) (indexOf f (headerAt f (d .big))) (placeOf d sequence f position row) row

@@ -2,6 +2,7 @@
 // the chapter's order; what both managers share stands in `standard_rules`. Here stand the types that they speak of. The code that
 // follows them is in `incremental_bucket` and `incremental`.
 use aipsio_rules::Cursor;
+use bytes_at::Refusal;
 
 // The header's fields, and the cursor past them.
 pub struct HeaderFields {
@@ -12,22 +13,22 @@ pub struct HeaderFields {
     pub next: Cursor,
 }
 
-// The numbers of a header; zeros and the number where it is refused.
+// The numbers of a header; zeros and the refusal where it is refused.
 pub struct Header {
     pub size: usize,
     pub count: usize,
     pub free_count: usize,
     pub first_free: usize,
-    pub refused: usize,
+    pub refused: Refusal,
 }
 
 // The index of a file: the number of its entries, and where in the file its first rows, one more than entries, and its bucket
-// numbers start; zeros and the number where it is refused.
+// numbers start; zeros and the refusal where it is refused.
 pub struct Index {
     pub count: usize,
     pub firsts: usize,
     pub buckets: usize,
-    pub refused: usize,
+    pub refused: Refusal,
 }
 
 // The columns that a file keeps, in table order: the bytes of a cell of each, 0 for a String, whose offset alone is judged; how
@@ -46,18 +47,18 @@ pub struct Starts {
     pub next: Cursor,
 }
 
-// Where the bucket of the row that is asked for starts, and the offset of the row's value in the column; zeros and the number
+// Where the bucket of the row that is asked for starts, and the offset of the row's value in the column; zeros and the refusal
 // where a bucket is refused.
 pub struct Found {
     pub start: usize,
     pub offset: usize,
-    pub refused: usize,
+    pub refused: Refusal,
 }
 
-// What the check of a file tells: the bucket size, and the first bit of the cell that is asked for; zeros and the number where
+// What the check of a file tells: the bucket size, and the first bit of the cell that is asked for; zeros and the refusal where
 // it is refused.
 pub struct Checked {
-    pub refused: usize,
+    pub refused: Refusal,
     pub size: usize,
     pub first: usize,
 }

@@ -1,5 +1,7 @@
-// Reads a table.dat on standard input and prints its row count and its columns, or the number of its refusal. Where the input can not
-// be read to its end it prints nothing but a message on standard error, and a message too where standard output can not be written.
+// Reads a table.dat on standard input and prints its row count and its columns, or its refusal: the number and the byte. Where the
+// input can not be read to its end it prints nothing but a message on standard error, and a message too where standard output can
+// not be written.
+use bytes_at::Refusal;
 use libc::STDERR_FILENO;
 use libc::STDIN_FILENO;
 use libc::STDOUT_FILENO;
@@ -30,9 +32,11 @@ fn print_column(s: &[u8], position: usize, c: Column, sequence: usize) -> bool {
     print(b"\n") & whole
 }
 
-fn print_refusal(number: usize) -> bool {
+fn print_refusal(why: Refusal) -> bool {
     let mut whole = print(b"refused ");
-    whole = print_number(number) & whole;
+    whole = print_number(why.number) & whole;
+    whole = print(b" ") & whole;
+    whole = print_number(why.byte) & whole;
     print(b"\n") & whole
 }
 
@@ -48,7 +52,7 @@ fn print_counts(rows: usize, columns: usize) -> bool {
 fn list(s: &[u8]) -> bool {
     let d = table::describe(s);
     let refused = d.refused;
-    if refused != 0 {
+    if refused.number != 0 {
         return print_refusal(refused);
     }
     let columns = d.columns;

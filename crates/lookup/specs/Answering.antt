@@ -14,7 +14,7 @@ use Rattle.lookup_rules.specs.declared.Answer.{Answer}
 
 -- "It is all zero after every refusal and for every IncrementalStMan file"
 abbrev pub keepsText : Staged → Bool
-keepsText s = eqb (s .refused) 0 && not (s .incremental)
+keepsText s = eqb (s .refused .number) 0 && not (s .incremental)
 
 unfoldable pub roomSettled : Bool → List ℕ → List ℕ
 roomSettled keep room = cond keep room (replicate (length room) 0)
@@ -34,7 +34,7 @@ cellFound text s r =
     let there : Located = record { first = s .first; looks = 0; entries = 0 } in
     let here = locatedBy text (s .set) (s .plan .size) (s .plan .offset) (s .plan .bits) (r .row) in
     let cell = cond (s .incremental) there here in
-    cond (eqb (s .refused) 0 && r .cell) cell noCell
+    cond (eqb (s .refused .number) 0 && r .cell) cell noCell
 
 -- the answer with a cell
 abbrev pub answerWith : Request → Staged → Located → Answer

@@ -3,6 +3,7 @@ ghost use mathlib.Core.Path.{_≡_};
 ghost use mathlib.Core.Bool.{true, false, cond};
 ghost use Rattle.lookup_rules.specs.Questions.{noPlan};
 ghost use Rattle.lookup.specs.Answering.{keepsText, roomSettled, Findable, cellFound, answerWith};
+use bytes_at::Refusal;
 use lookup_rules::Answer;
 use lookup_rules::Plan;
 use lookup_rules::Request;
@@ -13,7 +14,7 @@ use standard::Located;
 pub fn keeps_text(s: Staged) -> bool
     ensures { λ r. ⌜ r ≡ keepsText s ⌝ }
 {
-    if s.refused != 0 {
+    if s.refused.number != 0 {
         return false;
     }
     !s.incremental
@@ -32,10 +33,10 @@ pub fn settle(keep: bool, room: &mut [u8])
 // The cell that a question asks for: in StandardStMan by the index text in the room; in IncrementalStMan the check has found it,
 // and no last rows are looked at. Zeros where the question asks for none or is refused.
 pub fn find_cell(room: &[u8], s: Staged, r: Request) -> Located
-    requires { ⌜ (s .refused ≡ 0 → r .cell ≡ true → s .incremental ≡ false → Findable (now room) s (r .row)) ⌝ }
+    requires { ⌜ (s .refused .number ≡ 0 → r .cell ≡ true → s .incremental ≡ false → Findable (now room) s (r .row)) ⌝ }
     ensures { λ x. ⌜ x ≡ cellFound (now (room .entry)) s r ⌝ }
 {
-    if s.refused != 0 {
+    if s.refused.number != 0 {
         return standard::place::no_cell();
     }
     if r.cell {
@@ -63,13 +64,13 @@ fn told(column: bool, p: Plan) -> Plan
     lookup_question::reading::no_plan()
 }
 
-// "A refusal carries its number and zeros." Every other answer has the file's bucket size; a check answers no plan, and only a
+// A refusal, and zeros. Every other answer has the file's bucket size; a check answers no plan, and only a
 // place or a view has bits and looks.
 pub fn answer(r: Request, s: Staged, cell: Located) -> Answer
     ensures { λ a. ⌜ a ≡ answerWith r s cell ⌝ }
 {
     let refused = s.refused;
-    if refused != 0 {
+    if refused.number != 0 {
         return Answer {
             refused: refused,
             size: 0,
@@ -83,7 +84,7 @@ pub fn answer(r: Request, s: Staged, cell: Located) -> Answer
     let p = s.plan;
     if r.cell {
         return Answer {
-            refused: 0,
+            refused: Refusal { number: 0, byte: 0 },
             size: p.size,
             plan: told(r.column, p),
             first: cell.first,
@@ -93,7 +94,7 @@ pub fn answer(r: Request, s: Staged, cell: Located) -> Answer
         };
     }
     Answer {
-        refused: 0,
+        refused: Refusal { number: 0, byte: 0 },
         size: p.size,
         plan: told(r.column, p),
         first: 0,

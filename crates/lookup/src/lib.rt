@@ -8,6 +8,7 @@ ghost use Prim.Native.Nat.{_+_, _/_};
 ghost use denote.Ref.{ptr};
 ghost use Rattle.lookup_rules.specs.Questions.{answerOf, roomAfter};
 ghost use Rattle.lookup_rules.specs.Answers.{verdictOf, verdictRefusal, plannedOf, plannedRefusal, plannedPlan, placedOf, placedRefusal, placedBits, placedLooks, answerBits, answerLooks, viewOf};
+use bytes_at::Refusal;
 use lookup_rules::Asked;
 use lookup_rules::Placed;
 use lookup_rules::Plan;
@@ -15,7 +16,7 @@ use lookup_rules::Planned;
 use lookup_rules::Question;
 use lookup_rules::Verdict;
 
-// File check. What each case of the answer says, the refusal's number and the values, is given by cases (`verdictRefusal`, ..).
+// File check. What each case of the answer says, the refusal and the values, is given by cases (`verdictRefusal`, ..).
 pub fn check(table: &[u8], file: &[u8], sequence: usize, room: &mut [u8]) -> Verdict
     ensures { λ r. ⌜ (r ≡ verdictOf (answerOf (now (table .entry)) (now (file .entry)) (Question.Check sequence) (length (now (room .entry))))) × (now (room .exit) ≡ roomAfter (now (table .entry)) (now (file .entry)) (Question.Check sequence) (length (now (room .entry)))) ⌝ }
     ensures says { λ r. ⌜ verdictRefusal r ≡ answerOf (now (table .entry)) (now (file .entry)) (Question.Check sequence) (length (now (room .entry))) .refused ⌝ }
@@ -80,14 +81,14 @@ pub fn view<'f>(
     lookup_question::types::part_of(file, a)
 }
 
-// Why that view is refused; 0 where it is not.
+// Why that view is refused; the refusal's number is 0 where it is not.
 pub fn view_refusal(
     table: &[u8],
     file: &[u8],
     row: usize,
     position: usize,
     room: &mut [u8],
-) -> usize
+) -> Refusal
     ensures { λ r. ⌜ (r ≡ answerOf (now (table .entry)) (now (file .entry)) (Question.View row (Asked.Position position)) (length (now (room .entry))) .refused) × (now (room .exit) ≡ roomAfter (now (table .entry)) (now (file .entry)) (Question.View row (Asked.Position position)) (length (now (room .entry)))) ⌝ }
 {
     let q = Question::View(row, Asked::Position(position));
@@ -109,14 +110,14 @@ pub fn view_planned<'f>(
     lookup_question::types::part_of(file, a)
 }
 
-// Why that view is refused; 0 where it is not.
+// Why that view is refused; the refusal's number is 0 where it is not.
 pub fn view_planned_refusal(
     table: &[u8],
     file: &[u8],
     row: usize,
     plan: Plan,
     room: &mut [u8],
-) -> usize
+) -> Refusal
     ensures { λ r. ⌜ (r ≡ answerOf (now (table .entry)) (now (file .entry)) (Question.View row (Asked.Planned plan)) (length (now (room .entry))) .refused) × (now (room .exit) ≡ roomAfter (now (table .entry)) (now (file .entry)) (Question.View row (Asked.Planned plan)) (length (now (room .entry)))) ⌝ }
 {
     let q = Question::View(row, Asked::Planned(plan));

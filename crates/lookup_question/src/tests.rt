@@ -4,20 +4,24 @@ ghost use mathlib.Core.Path.{_≡_};
 ghost use mathlib.Core.Bool.{_||_};
 ghost use Rattle.bytes_at.specs.Stages.{_▷_, orNo};
 ghost use Rattle.lookup_rules.specs.Questions.{samePlan, isColumn, sequenceFor, isPlaced, isFresh, isBelow, isSeen};
+use bytes_at::Refusal;
 use lookup_rules::Plan;
 use lookup_rules::Request;
 
 // One stage more: after a refusal nothing counts.
-pub fn stage(refused: usize, ok: bool, number: usize) -> usize
+pub fn stage(refused: Refusal, ok: bool, number: usize) -> Refusal
     ensures { λ r. ⌜ r ≡ refused ▷ orNo ok number ⌝ }
 {
-    if refused != 0 {
+    if refused.number != 0 {
         return refused;
     }
     if ok {
-        return 0;
+        return Refusal { number: 0, byte: 0 };
     }
-    number
+    Refusal {
+        number: number,
+        byte: 0,
+    }
 }
 
 fn either(a: bool, b: bool) -> bool

@@ -13,7 +13,7 @@ pub fn verdict(a: Answer) -> Verdict
     ensures { λ r. ⌜ r ≡ verdictOf a ⌝ }
 {
     let refused = a.refused;
-    if refused == 0 {
+    if refused.number == 0 {
         return Verdict::Accepted;
     }
     Verdict::Refused(refused)
@@ -23,7 +23,7 @@ pub fn planned(a: Answer) -> Planned
     ensures { λ r. ⌜ r ≡ plannedOf a ⌝ }
 {
     let refused = a.refused;
-    if refused == 0 {
+    if refused.number == 0 {
         let p = a.plan;
         return Planned::Ready(p);
     }
@@ -34,7 +34,7 @@ pub fn placed(a: Answer) -> Placed
     ensures { λ r. ⌜ r ≡ placedOf a ⌝ }
 {
     let refused = a.refused;
-    if refused == 0 {
+    if refused.number == 0 {
         return Placed::At {
             first: a.first,
             count: a.count,

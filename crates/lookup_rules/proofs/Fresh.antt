@@ -6,8 +6,9 @@ use mathlib.Core.Bool.{Bool, true, false}
 use Prim.Native.Nat.{ℕ}
 use native.Mathlib.Omega.{arith}
 use Rattle.bytes_at.specs.Steps.{_>>=_}
-use Rattle.bytes_at.specs.Stages.{_▷_, orNo}
-use Rattle.bytes_at.proofs.Stages.{regroup}
+use Rattle.bytes_at.specs.Stages.{blaming, _▷_, orNo}
+use Rattle.bytes_at.specs.declared.Refusal.{Refusal}
+use Rattle.bytes_at.proofs.Stages.{regroup, clear-then, clear-or}
 use Rattle.table_rules.specs.Table.{describedAs}
 use Rattle.lookup_rules.specs.declared.Plan.{Plan}
 use Rattle.lookup_rules.specs.declared.Request.{Request}
@@ -16,10 +17,10 @@ use Rattle.lookup_rules.specs.declared.Question.the-variants.{Prepare}
 use Rattle.lookup_rules.specs.declared.Answer.{Answer}
 use Rattle.lookup_rules.specs.Questions.{cellOf, requestOf, targetOf, samePlan, isBelow, isSeen, stagesAfter, stagesOf, answered, answerFor, roomFor}
 use Rattle.lookup_rules.specs.Stale.{preparedNow, Stale, checkedFor, planOfNow, ByPlan, EveryPlan}
-use Rattle.lookup_rules.proofs.Files.{row-refused, row-plan}
+use Rattle.lookup_rules.proofs.Files.{checked-clear, row-refused, row-plan}
 use Rattle.lookup_rules.proofs.Stages.{answer-refused, answered-is, room-zero}
 use Rattle.lookup_rules.proofs.Plans.{fresh-same, stale-differs, differs-stale}
-use Rattle.lookup_rules.proofs.Refusals.{passes, stale-twelve, unmade-stays}
+use Rattle.lookup_rules.proofs.Refusals.{unchanged, stale-twelve, unmade-stays}
 
 -- ---- the plan of a position, asked for now
 module _ (t f : List ℕ) (c l : ℕ) where
@@ -32,7 +33,8 @@ module _ (t f : List ℕ) (c l : ℕ) where
 
   prepare-refused : stagesOf t f prepared l .refused ≡ checkedFor t f prepared l .refused
   unfolding stagesOf stagesAfter _>>=_
-  prepare-refused = passes _ 14 ∙ passes _ 9 ∙ passes _ 12
+  prepare-refused =
+      unchanged _ 14 (clear-then _ _ (clear-or true 8 _)) ∙ unchanged _ 9 (clear-then _ _ (clear-or true 11 _)) ∙ unchanged _ 12 (checked-clear (describedAs t) _ f l 0)
 
 module _ (t f : List ℕ) (p : Plan) (l : ℕ) where
   -- the request for it
@@ -42,10 +44,10 @@ module _ (t f : List ℕ) (p : Plan) (l : ℕ) where
   made-check : preparedNow t f p l .refused ≡ checkedFor t f now l .refused
   made-check = answer-refused t f now l ∙ prepare-refused t f (p .position) l
 
-  made-plan : preparedNow t f p l .refused ≡ 0 → preparedNow t f p l .plan ≡ planOfNow t f now l
+  made-plan : preparedNow t f p l .refused .number ≡ 0 → preparedNow t f p l .plan ≡ planOfNow t f now l
   unfolding answerFor
   made-plan h =
-      ap (λ (a : Answer). a .plan) (answered-is now (stagesOf t f now l) _ _ (sym (answer-refused t f now l) ∙ h))
+      ap (λ (a : Answer). a .plan) (answered-is now (stagesOf t f now l) _ _ (rw (answer-refused t f now l) at h))
       ∙ prepare-plan t f (p .position) l
 
 -- ---- a cell by the plan, or by the plan's position; of its view where v is true
@@ -69,7 +71,7 @@ module _ (t f : List ℕ) (v : Bool) (row : ℕ) (p : Plan) (l : ℕ) where
   same-made = row-plan (describedAs t) _ f l row 0
 
   -- the stages after the plan's
-  abbrev later : ℕ
+  abbrev later : Refusal
   later = orNo (isBelow byPlan (describedAs t .rows)) 9 ▷ orNo (isSeen byPlan (targetOf (describedAs t) byPlan .incremental) (planOfNow t f byPlan l .datatype)) 14
 
   planned-stages : stagesOf t f byPlan l .refused ≡ (checkedFor t f byPlan l .refused ▷ orNo (samePlan p (planOfNow t f byPlan l)) 12) ▷ later
@@ -80,7 +82,7 @@ module _ (t f : List ℕ) (v : Bool) (row : ℕ) (p : Plan) (l : ℕ) where
   planned-refused =
       answer-refused t f byPlan l
       ∙ planned-stages
-      ∙ ap (λ (n : ℕ). (n ▷ orNo (samePlan p (planOfNow t f byPlan l)) 12) ▷ later) (same-refusal ∙ sym (made-check t f p l))
+      ∙ ap (λ (n : Refusal). (n ▷ orNo (samePlan p (planOfNow t f byPlan l)) 12) ▷ later) (same-refusal ∙ sym (made-check t f p l))
       ∙ ap (λ (x : Plan). (preparedNow t f p l .refused ▷ orNo (samePlan p x) 12) ▷ later) same-made
 
   same-stages : samePlan p (planOfNow t f byPlan l) ≡ true → stagesOf t f byPlan l ≡ stagesOf t f byPosition l
@@ -99,8 +101,8 @@ module _ (t f : List ℕ) (v : Bool) (row : ℕ) (p : Plan) (l : ℕ) where
     unfolding roomFor
     same-room = rw same
 
-  stale-number : Stale t f p l → answerFor t f byPlan l .refused ≡ 12
-  stale-number s =
+  stale-refused : Stale t f p l → answerFor t f byPlan l .refused ≡ blaming 12 0
+  stale-refused s =
       planned-refused
       ∙ stale-twelve (preparedNow t f p l .refused) (samePlan p made) later (s .made)
       (stale-differs p made (rw (made-plan t f p l (s .made)) at (s .differs)))
@@ -109,18 +111,18 @@ module _ (t f : List ℕ) (v : Bool) (row : ℕ) (p : Plan) (l : ℕ) where
   by-plan =
       record {
         refused = λ s. record {
-          earlier = same-refusal ∙ sym (made-check t f p l) ∙ s .made;
+          earlier = ap (λ (n : Refusal). n .number) (same-refusal ∙ sym (made-check t f p l)) ∙ s .made;
           stale = ap (samePlan p) same-made ∙ stale-differs p made (rw (made-plan t f p l (s .made)) at (s .differs));
         };
         only = λ s.
-            let z = made-check t f p l ∙ sym same-refusal ∙ s .earlier in
+            let z = ap (λ (n : Refusal). n .number) (made-check t f p l ∙ sym same-refusal) ∙ s .earlier in
             record { made = z; differs = rw (made-plan t f p l z) (differs-stale p made (ap (samePlan p) (sym same-made) ∙ s .stale)) };
-        number = stale-number;
-        room = λ s. room-zero t f byPlan l (λ e. let z : _≡_ {A = ℕ} 12 0 = sym (stale-number s) ∙ e in omega arith);
+        number = stale-refused;
+        room = λ s. room-zero t f byPlan l (λ e. let z : _≡_ {A = ℕ} 12 0 = ap (λ (n : Refusal). n .number) (sym (stale-refused s)) ∙ e in omega arith);
         fresh = λ z e. same-answer (fresh-same p made (sym (made-plan t f p l z) ∙ e));
         fresh-room = λ z e. same-room (fresh-same p made (sym (made-plan t f p l z) ∙ e));
         unmade = λ n. planned-refused ∙ unmade-stays _ _ _ n;
-        unmade-room = λ n. room-zero t f byPlan l (λ e. n (sym (planned-refused ∙ unmade-stays _ _ _ n) ∙ e));
+        unmade-room = λ n. room-zero t f byPlan l (λ e. n (ap (λ (x : Refusal). x .number) (sym (planned-refused ∙ unmade-stays _ _ _ n)) ∙ e));
       }
 
 -- Place and View by a plan are refused as stale, with 12, exactly where a plan can be made now and is another one; they answer what they

@@ -32,7 +32,7 @@ unfolding placeIn
 place-there d sequence f row c = refl
 
 module _ (t f : List ℕ) (sequence l : ℕ) (r : Request) (w : Cell r) (k : inIncremental t sequence)
-    (e : bindingIn (describedAs t) (r .position) .sequence ≡ sequence) (h : answerFor t f r l .refused ≡ 0) where
+    (e : bindingIn (describedAs t) (r .position) .sequence ≡ sequence) (h : answerFor t f r l .refused .number ≡ 0) where
   abbrev d : Description
   d = describedAs t
 
@@ -45,8 +45,8 @@ module _ (t f : List ℕ) (sequence l : ℕ) (r : Request) (w : Cell r) (k : inI
   kind : targetFor t f r l .incremental ≡ true
   kind = target-kind d r ∙ ap (λ (x : Kind). isIncremental x) held-kind
 
-  pub accepted : refusalOf d (targetFor t f r l .sequence) f (targetFor t f r l .refused) ≡ 0
-  accepted = sym (incremental-refused d (targetFor t f r l) f l kind (r .row)) ∙ passed t f r l h .checked
+  pub accepted : refusalOf d (targetFor t f r l .sequence) f (targetFor t f r l .refused) .number ≡ 0
+  accepted = rw (incremental-refused d (targetFor t f r l) f l kind (r .row)) at (passed t f r l h .checked)
 
   kept : Kept d (targetFor t f r l .sequence) (r .position)
   kept = record {

@@ -10,3 +10,4 @@ pub mod Fresh
 pub mod Said
 pub mod Looks
 pub mod Views
+pub mod Blamed

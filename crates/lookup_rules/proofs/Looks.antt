@@ -57,7 +57,7 @@ module _ (t f : List ℕ) (row l : ℕ) (asked : Asked) where
   told = answerLooks (answerOf t f (Place row asked) l)
 
   -- where nothing is refused
-  module _ (h : answerOf t f (Place row asked) l .refused ≡ 0) where
+  module _ (h : answerOf t f (Place row asked) l .refused .number ≡ 0) where
     same : (k : Bool) → targetFor t f r l .incremental ≡ k → told ≡ looksIn d k (targetFor t f r l .sequence) f row c
     same k e = ap answerLooks (passed t f r l h .same) ∙ ap (λ (x : Bool). looksIn d x (targetFor t f r l .sequence) f row c) e
 
@@ -75,12 +75,12 @@ module _ (t f : List ℕ) (row l : ℕ) (asked : Asked) where
 
   looked : Looked t asked (answerOf t f (Place row asked) l)
   looked = record {
-    few = elim (ℕ-discrete (answerOf t f (Place row asked) l .refused) 0) [
+    few = elim (ℕ-discrete (answerOf t f (Place row asked) l .refused .number) 0) [
       | yes h ↦ by-kind h kind refl
       | no h ↦ rw (refused-looks t f (Place row asked) l h) none-few
     ];
     refused = refused-looks t f (Place row asked) l;
-    incremental = λ sequence i k. elim (ℕ-discrete (answerOf t f (Place row asked) l .refused) 0) [
+    incremental = λ sequence i k. elim (ℕ-discrete (answerOf t f (Place row asked) l .refused .number) 0) [
       | yes h ↦ there h Incremental (rw k i) refl
       | no h ↦ refused-looks t f (Place row asked) l h
     ];

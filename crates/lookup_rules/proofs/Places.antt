@@ -1,10 +1,11 @@
 -- Demand 3 holds of the answers.
 -- Assumes nothing.
-use mathlib.Core.Path.{_≡_, refl, sym, ap, _∙_}
+use mathlib.Core.Path.{_≡_, refl, ap, _∙_}
 use mathlib.Core.List.{List}
 use mathlib.Core.Bool.{false}
 use Prim.Native.Nat.{ℕ, _<_}
 use lib.Dec.{T}
+use Rattle.bytes_at.specs.declared.Refusal.{Refusal}
 use Rattle.bytes_at.proofs.Stages.{then-left, then-right, or-passed}
 use Rattle.table_rules.specs.declared.Kind.{Kind}
 use Rattle.table_rules.specs.declared.Description.{Description}
@@ -24,9 +25,9 @@ use Rattle.standard_rules.proofs.Columns.{column-kept, map-rows}
 use Rattle.lookup_rules.proofs.Files.{standard-refused}
 use Rattle.lookup_rules.proofs.Stages.{targetFor, target-sequence, target-kind, passed}
 
-pub map-fits : (d : Description) (sequence : ℕ) (f : List ℕ) (refused l : ℕ) → refusalOf d sequence f refused l ≡ 0 → T (fits (mapOf d sequence f))
+pub map-fits : (d : Description) (sequence : ℕ) (f : List ℕ) (refused : Refusal) (l : ℕ) → refusalOf d sequence f refused l .number ≡ 0 → T (fits (mapOf d sequence f))
 unfolding refusalWith
-map-fits d sequence f refused l h = or-passed (fits (mapOf d sequence f)) 10 (search (then-left, then-right) depth 9)
+map-fits d sequence f refused l h = or-passed (fits (mapOf d sequence f)) 10 0 (search (then-left, then-right) depth 9)
 
 pub place-standard : (d : Description) (sequence : ℕ) (f : List ℕ) (row c : ℕ) → placeIn d false sequence f row c ≡ placeOf (mapOf d sequence f) row c
 unfolding placeIn
@@ -40,7 +41,7 @@ pub record Placed (t f : List ℕ) (sequence row c : ℕ) (b : Bits) : Type 0 wh
   pub same : b ≡ placeOf (mapOf (describedAs t) sequence f) row c
 
 module _ (t f : List ℕ) (sequence l : ℕ) (r : Request) (w : Cell r) (k : inStandard t sequence)
-    (e : bindingIn (describedAs t) (r .position) .sequence ≡ sequence) (h : answerFor t f r l .refused ≡ 0) where
+    (e : bindingIn (describedAs t) (r .position) .sequence ≡ sequence) (h : answerFor t f r l .refused .number ≡ 0) where
   pub own : targetFor t f r l .sequence ≡ sequence
   own = target-sequence (describedAs t) r ∙ cell-sequence r _ w ∙ e
 
@@ -50,8 +51,8 @@ module _ (t f : List ℕ) (sequence l : ℕ) (r : Request) (w : Cell r) (k : inS
       ∙ ap (λ (n : ℕ). isIncremental (kindWith (describedAs t .managers) (describedAs t .«manager_count») n)) own
       ∙ ap (λ (x : Kind). isIncremental x) k
 
-  pub accepted : refusalOf (describedAs t) (targetFor t f r l .sequence) f (targetFor t f r l .refused) l ≡ 0
-  accepted = sym (standard-refused (describedAs t) (targetFor t f r l) f l kind (r .row)) ∙ passed t f r l h .checked
+  pub accepted : refusalOf (describedAs t) (targetFor t f r l .sequence) f (targetFor t f r l .refused) l .number ≡ 0
+  accepted = rw (standard-refused (describedAs t) (targetFor t f r l) f l kind (r .row)) at (passed t f r l h .checked)
 
   pub shown : Placed t f sequence (r .row) (r .position) (answerBits (answerFor t f r l))
   shown =
@@ -67,7 +68,7 @@ module _ (t f : List ℕ) (sequence l : ℕ) (r : Request) (w : Cell r) (k : inS
 
 -- by position and by plan alike
 placed : (t f : List ℕ) (sequence l row : ℕ) (a : Asked) → inStandard t sequence → carries t a sequence
-    → answerOf t f (Place row a) l .refused ≡ 0
+    → answerOf t f (Place row a) l .refused .number ≡ 0
     → Placed t f sequence row (columnOf a) (answerBits (answerOf t f (Place row a) l))
 placed t f sequence l row a k e h = shown t f sequence l (requestOf (Place row a)) (record { cell = refl; column = refl }) k e h
 

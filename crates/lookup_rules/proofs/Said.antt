@@ -1,9 +1,10 @@
 -- What the cases of an answer say is what the answer says. Assumes nothing.
-use mathlib.Core.Path.{_≡_, sym}
+use mathlib.Core.Path.{_≡_, refl, sym}
 use mathlib.Core.List.{List}
 use Prim.Native.Nat.{ℕ}
 use native.Mathlib.Decide.{ℕ-discrete}
 use borrow.Author.Tests.{eq-eqb, ne-eqb}
+use Rattle.bytes_at.proofs.Stages.{Clear}
 use Rattle.standard_rules.specs.Place.{Bits}
 use Rattle.standard_rules.specs.Looks.{Looks}
 use Rattle.lookup_rules.specs.declared.Request.{Request}
@@ -13,53 +14,58 @@ use Rattle.lookup_rules.specs.declared.Answer.{Answer}
 use Rattle.lookup_rules.specs.Questions.{noPlan, noBits, noLooks, answered, answerFor, answerOf}
 use Rattle.lookup_rules.specs.Answers.{verdictRefusal, verdictOf, plannedRefusal, plannedPlan, plannedOf, placedRefusal, placedBits, placedLooks, placedOf, answerBits, answerLooks, Says, EveryAnswer}
 
--- "A refusal carries its number and zeros."
+-- "A refusal carries its number and zeros", and beside them its byte; where nothing is refused there is none.
 record Zeros (a : Answer) : Type 0 where
-  no-plan : (a .refused ≡ 0 → ⊥) → noPlan ≡ a .plan
-  no-bits : (a .refused ≡ 0 → ⊥) → noBits ≡ answerBits a
-  no-looks : (a .refused ≡ 0 → ⊥) → noLooks ≡ answerLooks a
+  clear : Clear (a .refused)
+  no-plan : (a .refused .number ≡ 0 → ⊥) → noPlan ≡ a .plan
+  no-bits : (a .refused .number ≡ 0 → ⊥) → noBits ≡ answerBits a
+  no-looks : (a .refused .number ≡ 0 → ⊥) → noLooks ≡ answerLooks a
 
 module _ (a : Answer) (z : Zeros a) where
   by-verdict : verdictRefusal (verdictOf a) ≡ a .refused
   unfolding verdictOf
-  by-verdict = elim (ℕ-discrete (a .refused) 0) [ yes e ↦ rw (eq-eqb (a .refused) 0 e) (sym e) | no n ↦ rw (ne-eqb (a .refused) 0 n) ]
+  by-verdict = elim (ℕ-discrete (a .refused .number) 0) [ yes e ↦ rw (eq-eqb (a .refused .number) 0 e) (sym (z .clear e)) | no n ↦ rw (ne-eqb (a .refused .number) 0 n) ]
 
   by-planned : plannedRefusal (plannedOf a) ≡ a .refused
   unfolding plannedOf
-  by-planned = elim (ℕ-discrete (a .refused) 0) [ yes e ↦ rw (eq-eqb (a .refused) 0 e) (sym e) | no n ↦ rw (ne-eqb (a .refused) 0 n) ]
+  by-planned = elim (ℕ-discrete (a .refused .number) 0) [ yes e ↦ rw (eq-eqb (a .refused .number) 0 e) (sym (z .clear e)) | no n ↦ rw (ne-eqb (a .refused .number) 0 n) ]
 
   by-plan : plannedPlan (plannedOf a) ≡ a .plan
   unfolding plannedOf
-  by-plan = elim (ℕ-discrete (a .refused) 0) [ yes e ↦ rw (eq-eqb (a .refused) 0 e) | no n ↦ rw (ne-eqb (a .refused) 0 n) (z .no-plan n) ]
+  by-plan = elim (ℕ-discrete (a .refused .number) 0) [ yes e ↦ rw (eq-eqb (a .refused .number) 0 e) | no n ↦ rw (ne-eqb (a .refused .number) 0 n) (z .no-plan n) ]
 
   by-placed : placedRefusal (placedOf a) ≡ a .refused
   unfolding placedOf
-  by-placed = elim (ℕ-discrete (a .refused) 0) [ yes e ↦ rw (eq-eqb (a .refused) 0 e) (sym e) | no n ↦ rw (ne-eqb (a .refused) 0 n) ]
+  by-placed = elim (ℕ-discrete (a .refused .number) 0) [ yes e ↦ rw (eq-eqb (a .refused .number) 0 e) (sym (z .clear e)) | no n ↦ rw (ne-eqb (a .refused .number) 0 n) ]
 
   by-bits : placedBits (placedOf a) ≡ answerBits a
   unfolding placedOf
-  by-bits = elim (ℕ-discrete (a .refused) 0) [ yes e ↦ rw (eq-eqb (a .refused) 0 e) | no n ↦ rw (ne-eqb (a .refused) 0 n) (z .no-bits n) ]
+  by-bits = elim (ℕ-discrete (a .refused .number) 0) [ yes e ↦ rw (eq-eqb (a .refused .number) 0 e) | no n ↦ rw (ne-eqb (a .refused .number) 0 n) (z .no-bits n) ]
 
   by-looks : placedLooks (placedOf a) ≡ answerLooks a
   unfolding placedOf
-  by-looks = elim (ℕ-discrete (a .refused) 0) [ yes e ↦ rw (eq-eqb (a .refused) 0 e) | no n ↦ rw (ne-eqb (a .refused) 0 n) (z .no-looks n) ]
+  by-looks = elim (ℕ-discrete (a .refused .number) 0) [ yes e ↦ rw (eq-eqb (a .refused .number) 0 e) | no n ↦ rw (ne-eqb (a .refused .number) 0 n) (z .no-looks n) ]
 
-answered-number : (r : Request) (s : Staged) (b : Bits) (n : Looks) → (answered r s b n .refused ≡ 0 → ⊥) → s .refused ≡ 0 → ⊥
+answered-number : (r : Request) (s : Staged) (b : Bits) (n : Looks) → (answered r s b n .refused .number ≡ 0 → ⊥) → s .refused .number ≡ 0 → ⊥
 unfolding answered
-answered-number r s b n h e = h (rw (eq-eqb (s .refused) 0 e))
+answered-number r s b n h e = h (rw (eq-eqb (s .refused .number) 0 e))
 
 zeros : (r : Request) (s : Staged) (b : Bits) (n : Looks) → Zeros (answered r s b n)
 unfolding answered
 zeros r s b n = record {
-  no-plan = λ h. rw (ne-eqb (s .refused) 0 (answered-number r s b n h));
-  no-bits = λ h. rw (ne-eqb (s .refused) 0 (answered-number r s b n h));
-  no-looks = λ h. rw (ne-eqb (s .refused) 0 (answered-number r s b n h));
+  clear = elim (ℕ-discrete (s .refused .number) 0) [
+    | yes e ↦ rw (eq-eqb (s .refused .number) 0 e) (λ z. refl)
+    | no h ↦ rw (ne-eqb (s .refused .number) 0 h) (λ z. absurd (h z))
+  ];
+  no-plan = λ h. rw (ne-eqb (s .refused .number) 0 (answered-number r s b n h));
+  no-bits = λ h. rw (ne-eqb (s .refused .number) 0 (answered-number r s b n h));
+  no-looks = λ h. rw (ne-eqb (s .refused .number) 0 (answered-number r s b n h));
 }
 
 said : (a : Answer) → Zeros a → Says a
 said a z = record { verdict = by-verdict a z; planned = by-planned a z; plan = by-plan a z; placed = by-placed a z; bits = by-bits a z; looks = by-looks a z }
 
-pub refused-looks : (t f : List ℕ) (q : Question) (l : ℕ) → (answerOf t f q l .refused ≡ 0 → ⊥) → answerLooks (answerOf t f q l) ≡ noLooks
+pub refused-looks : (t f : List ℕ) (q : Question) (l : ℕ) → (answerOf t f q l .refused .number ≡ 0 → ⊥) → answerLooks (answerOf t f q l) ≡ noLooks
 unfolding answerFor
 refused-looks t f q l h = sym (zeros _ _ _ _ .no-looks h)
 

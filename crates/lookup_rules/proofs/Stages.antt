@@ -1,6 +1,6 @@
 -- What an answer that is not refused shows of each stage.
 -- Assumes nothing.
-use mathlib.Core.Path.{_≡_, refl, sym, _∙_}
+use mathlib.Core.Path.{_≡_, refl, sym}
 use mathlib.Core.List.{List}
 use mathlib.Core.Bool.{cond}
 use Prim.Native.Nat.{ℕ}
@@ -9,7 +9,8 @@ use lib.ListN.{replicate}
 use lib.Dec.{T}
 use borrow.Author.Tests.{eq-eqb, ne-eqb}
 use Rattle.bytes_at.specs.Steps.{_>>=_}
-use Rattle.bytes_at.proofs.Stages.{then-left, then-right, or-passed}
+use Rattle.bytes_at.specs.Stages.{noRefusal}
+use Rattle.bytes_at.proofs.Stages.{then-left, then-right, or-passed, Clear, clear-then, clear-or}
 use Rattle.table_rules.specs.declared.Description.{Description}
 use Rattle.table_rules.specs.Table.{describedAs, columnIn, bindingIn}
 use Rattle.standard_rules.specs.Place.{Bits}
@@ -22,19 +23,27 @@ use Rattle.lookup_rules.specs.Stale.{checkedFor}
 use Rattle.lookup_rules.proofs.Files.{target-passed}
 
 -- ---- the answer
-answered-first : (r : Request) (s : Staged) (b : Bits) (n : Looks) → answered r s b n .refused ≡ s .refused
+answered-first : (r : Request) (s : Staged) (b : Bits) (n : Looks) → Clear (s .refused) → answered r s b n .refused ≡ s .refused
 unfolding answered
-answered-first r s b n = elim (ℕ-discrete (s .refused) 0) [ yes e ↦ rw (eq-eqb (s .refused) 0 e) (sym e) | no h ↦ rw (ne-eqb (s .refused) 0 h) ]
+answered-first r s b n c =
+    elim (ℕ-discrete (s .refused .number) 0) [
+      | yes e ↦ rw (eq-eqb (s .refused .number) 0 e) (sym (c e))
+      | no h ↦ rw (ne-eqb (s .refused .number) 0 h)
+    ]
+
+stages-clear : (t f : List ℕ) (r : Request) (l : ℕ) → Clear (stagesOf t f r l .refused)
+unfolding stagesOf stagesAfter _>>=_
+stages-clear t f r l = clear-then _ _ (clear-or _ 13 _)
 
 -- an answer is refused as its stages are
 pub answer-refused : (t f : List ℕ) (r : Request) (l : ℕ) → answerFor t f r l .refused ≡ stagesOf t f r l .refused
 unfolding answerFor
-answer-refused t f r l = answered-first _ _ _ _
+answer-refused t f r l = answered-first _ _ _ _ (stages-clear t f r l)
 
-pub answered-is : (r : Request) (s : Staged) (b : Bits) (n : Looks) → s .refused ≡ 0
+pub answered-is : (r : Request) (s : Staged) (b : Bits) (n : Looks) → s .refused .number ≡ 0
     → answered r s b n
     ≡ record {
-      refused = 0;
+      refused = noRefusal;
       size = s .plan .size;
       plan = cond (r .column) (s .plan) noPlan;
       first = cond (r .cell) b noBits .first;
@@ -43,22 +52,22 @@ pub answered-is : (r : Request) (s : Staged) (b : Bits) (n : Looks) → s .refus
       entries = cond (r .cell) n noLooks .entries;
     }
 unfolding answered
-answered-is r s b n h = rw (eq-eqb (s .refused) 0 h)
+answered-is r s b n h = rw (eq-eqb (s .refused .number) 0 h)
 
 -- ---- the stages of a question
 module _ (d : Description) (r : Request) where
-  pub target-column : targetOf d r .refused ≡ 0 → T (isColumn r (d .«column_count»))
+  pub target-column : targetOf d r .refused .number ≡ 0 → T (isColumn r (d .«column_count»))
   unfolding targetOf _>>=_
-  target-column h = or-passed _ 7 (then-right (d .refused) _ (then-left _ _ h))
+  target-column h = or-passed _ 7 _ (then-right (d .refused) _ (then-left _ _ h))
 
-  pub description-passed : targetOf d r .refused ≡ 0 → d .refused ≡ 0
+  pub description-passed : targetOf d r .refused .number ≡ 0 → d .refused .number ≡ 0
   unfolding targetOf _>>=_
   description-passed h = then-left _ _ (then-left _ _ h)
 
-  pub target-held : targetOf d r .refused ≡ 0
+  pub target-held : targetOf d r .refused .number ≡ 0
       → T (isHeld (kindWith (d .managers) (d .«manager_count») (targetOf d r .sequence)) (isPlaced r (columnIn d (r .position) .datatype .number)))
   unfolding targetOf _>>=_
-  target-held h = or-passed _ 7 (then-right _ _ h)
+  target-held h = or-passed _ 7 _ (then-right _ _ h)
 
   pub target-sequence : targetOf d r .sequence ≡ sequenceFor r (bindingIn d (r .position) .sequence)
   unfolding targetOf _>>=_
@@ -85,17 +94,17 @@ module _ (t f : List ℕ) (r : Request) (l : ℕ) where
   abbrev pub targetFor : Target
   targetFor = targetOf (describedAs t) r
 
-  pub check-of : stagesOf t f r l .refused ≡ 0 → checkedFor t f r l .refused ≡ 0
+  pub check-of : stagesOf t f r l .refused .number ≡ 0 → checkedFor t f r l .refused .number ≡ 0
   unfolding stagesOf stagesAfter _>>=_
   check-of h = then-left _ _ (then-left _ _ (then-left _ _ h))
 
-  pub row-passed : stagesOf t f r l .refused ≡ 0 → T (isBelow r (describedAs t .rows))
+  pub row-passed : stagesOf t f r l .refused .number ≡ 0 → T (isBelow r (describedAs t .rows))
   unfolding stagesOf stagesAfter _>>=_
-  row-passed h = or-passed _ 8 (then-right _ _ (then-left _ _ h))
+  row-passed h = or-passed _ 8 _ (then-right _ _ (then-left _ _ h))
 
-  pub seen-passed : stagesOf t f r l .refused ≡ 0 → T (isSeen r (targetFor .incremental) (stagesOf t f r l .plan .datatype))
+  pub seen-passed : stagesOf t f r l .refused .number ≡ 0 → T (isSeen r (targetFor .incremental) (stagesOf t f r l .plan .datatype))
   unfolding stagesOf stagesAfter _>>=_
-  seen-passed h = or-passed _ 13 (then-right _ _ h)
+  seen-passed h = or-passed _ 13 _ (then-right _ _ h)
 
   pub stages-sequence : stagesOf t f r l .sequence ≡ targetFor .sequence
   unfolding stagesOf stagesAfter _>>=_
@@ -127,12 +136,12 @@ module _ (t f : List ℕ) (r : Request) (l : ℕ) where
 -- What an answer that is not refused shows.
 pub record Passed (t f : List ℕ) (r : Request) (l : ℕ) : Type 0 where
   pub column : T (isColumn r (describedAs t .«column_count»))
-  pub held : targetFor t f r l .refused ≡ 0
-  pub checked : checkedFor t f r l .refused ≡ 0
+  pub held : targetFor t f r l .refused .number ≡ 0
+  pub checked : checkedFor t f r l .refused .number ≡ 0
   pub row : T (isBelow r (describedAs t .rows))
   pub same : answerFor t f r l
       ≡ record {
-        refused = 0;
+        refused = noRefusal;
         size = stagesOf t f r l .plan .size;
         plan = cond (r .column) (stagesOf t f r l .plan) noPlan;
         first = cellFor t f r l .first;
@@ -141,11 +150,11 @@ pub record Passed (t f : List ℕ) (r : Request) (l : ℕ) : Type 0 where
         entries = looksFor t f r l .entries;
       }
 
-pub passed : (t f : List ℕ) (r : Request) (l : ℕ) → answerFor t f r l .refused ≡ 0 → Passed t f r l
+pub passed : (t f : List ℕ) (r : Request) (l : ℕ) → answerFor t f r l .refused .number ≡ 0 → Passed t f r l
 unfolding answerFor
 passed t f r l h =
     let d = describedAs t in
-    let z = sym (answer-refused t f r l) ∙ h in
+    let z = rw (answer-refused t f r l) at h in
     let c = check-of t f r l z in
     let g = target-passed d (targetFor t f r l) f l (r .row) c in
     record {
@@ -157,6 +166,6 @@ passed t f r l h =
     }
 
 -- ---- "It is all zero after every refusal": the room
-pub room-zero : (t f : List ℕ) (r : Request) (l : ℕ) → (answerFor t f r l .refused ≡ 0 → ⊥) → roomFor t f r l ≡ replicate l 0
+pub room-zero : (t f : List ℕ) (r : Request) (l : ℕ) → (answerFor t f r l .refused .number ≡ 0 → ⊥) → roomFor t f r l ≡ replicate l 0
 unfolding roomFor
-room-zero t f r l h = rw (ne-eqb (stagesOf t f r l .refused) 0 (λ e. h (answer-refused t f r l ∙ e)))
+room-zero t f r l h = rw (ne-eqb (stagesOf t f r l .refused .number) 0 (λ e. h (rw (answer-refused t f r l) e)))

@@ -1,6 +1,6 @@
 -- A view that is not refused holds the cell: whole bytes, all of them in the file.
 -- Assumes nothing.
-use mathlib.Core.Path.{_≡_, refl, sym, ap, _∙_}
+use mathlib.Core.Path.{_≡_, refl, ap, _∙_}
 use mathlib.Core.List.{List}
 use mathlib.Core.Bool.{false}
 use Prim.Native.Nat.{ℕ, _+_, _*_, _≤_, _<_}
@@ -8,6 +8,7 @@ use native.Mathlib.Omega.{arith}
 use lib.Dec.{T, leb→le}
 use lib.ListN.{length}
 use borrow.Author.Tests.{eq-eqb}
+use Rattle.bytes_at.specs.declared.Refusal.{Refusal}
 use Rattle.bytes_at.specs.Steps.{_>>=_}
 use Rattle.bytes_at.proofs.Tests.{is-true}
 use Rattle.bytes_at.proofs.Stages.{then-left, then-right, or-passed}
@@ -52,23 +53,23 @@ holds : (f : List ℕ) (a : Answer) → Holds f (answerBits a) → HoldsCell f a
 holds f a h = record { starts = h .starts; bytes = h .bytes; there = omega (arith, h .starts, h .bytes, h .there) }
 
 -- ---- in StandardStMan
-long-enough : (d : Description) (sequence : ℕ) (f : List ℕ) (refused l : ℕ) → refusalOf d sequence f refused l ≡ 0
+long-enough : (d : Description) (sequence : ℕ) (f : List ℕ) (refused : Refusal) (l : ℕ) → refusalOf d sequence f refused l .number ≡ 0
     → 512 + mapOf d sequence f .count * mapOf d sequence f .size ≤ length f
 unfolding refusalWith mapWith
-long-enough d sequence f refused l h = leb→le _ _ (or-passed (longEnough (length f) (headerAt f (d .big) .size) (headerAt f (d .big) .count)) 0 (search (then-left, then-right) depth 9))
+long-enough d sequence f refused l h = leb→le _ _ (or-passed (longEnough (length f) (headerAt f (d .big) .size) (headerAt f (d .big) .count)) 0 (length f) (search (then-left, then-right) depth 9))
 
 -- ---- in IncrementalStMan
-there-enough : (d : Description) (sequence : ℕ) (f : List ℕ) (refused : ℕ) → incrementalRefusal d sequence f refused ≡ 0
+there-enough : (d : Description) (sequence : ℕ) (f : List ℕ) (refused : Refusal) → incrementalRefusal d sequence f refused .number ≡ 0
     → 512 + incrementalHeader f (d .big) .count * incrementalHeader f (d .big) .size ≤ length f
 unfolding incrementalRefusal
 there-enough d sequence f refused h =
-    leb→le _ _ (or-passed (longEnough (length f) (incrementalHeader f (d .big) .size) (incrementalHeader f (d .big) .count)) 0 (search (then-left, then-right) depth 9))
+    leb→le _ _ (or-passed (longEnough (length f) (incrementalHeader f (d .big) .size) (incrementalHeader f (d .big) .count)) 0 (length f) (search (then-left, then-right) depth 9))
 
 -- 8 x the bytes up to the cell's local row, and its bits
 even-first : (a k n : ℕ) → Even8 n → Even8 (8 * a + k * n)
 even-first a k n e = omega (arith, times-even k n e)
 
-module _ (t f : List ℕ) (l : ℕ) (r : Request) (w : Cell r) (h : answerFor t f r l .refused ≡ 0) where
+module _ (t f : List ℕ) (l : ℕ) (r : Request) (w : Cell r) (h : answerFor t f r l .refused .number ≡ 0) where
   abbrev d : Description
   d = describedAs t
 
@@ -127,7 +128,7 @@ module _ (t f : List ℕ) (l : ℕ) (r : Request) (w : Cell r) (h : answerFor t 
         }
 
 -- ---- by the manager's kind
-module _ (t f : List ℕ) (l row : ℕ) (a : Asked) (h : answerOf t f (View row a) l .refused ≡ 0) where
+module _ (t f : List ℕ) (l row : ℕ) (a : Asked) (h : answerOf t f (View row a) l .refused .number ≡ 0) where
   abbrev r : Request
   r = requestOf (View row a)
 
@@ -142,7 +143,7 @@ module _ (t f : List ℕ) (l row : ℕ) (a : Asked) (h : answerOf t f (View row 
   datatype-is = ap (λ (p : Plan). p .datatype) (stages-plan t f r l) ∙ ap (λ (c : Column). c .datatype .number) (target-described (describedAs t) r)
 
   shown-bool : targetFor t f r l .incremental ≡ false → columnIn (describedAs t) (r .position) .datatype .number ≡ 0 → ⊥
-  shown-bool k = no-bool _ (rw (k, datatype-is) at (seen-passed t f r l (sym (answer-refused t f r l) ∙ h)))
+  shown-bool k = no-bool _ (rw (k, datatype-is) at (seen-passed t f r l (rw (answer-refused t f r l) at h)))
 
   by-kind : (k : Kind) → kindWith (describedAs t .managers) (describedAs t .«manager_count») (bindingIn (describedAs t) (r .position) .sequence) ≡ k
       → Holds f (answerBits (answerFor t f r l))
@@ -155,7 +156,7 @@ pub every-view : EveryView
 every-view t f l row a h = holds f _ (by-kind t f l row a h _ refl)
 
 -- ---- the same bits as Place's: the view's stage is the last, and asks for nothing else
-same-stages : (t f : List ℕ) (l row : ℕ) (a : Asked) → stagesOf t f (requestOf (View row a)) l .refused ≡ 0
+same-stages : (t f : List ℕ) (l row : ℕ) (a : Asked) → stagesOf t f (requestOf (View row a)) l .refused .number ≡ 0
     → stagesOf t f (requestOf (View row a)) l ≡ stagesOf t f (requestOf (Place row a)) l
 unfolding stagesOf stagesAfter targetOf _>>=_
 same-stages t f l row a h =
@@ -165,13 +166,13 @@ same-stages t f l row a h =
 
 pub views-place : ViewsPlace
 unfolding answerFor answered
-views-place t f l row a h = rw (same-stages t f l row a (sym (answer-refused t f (requestOf (View row a)) l) ∙ h))
+views-place t f l row a h = rw (same-stages t f l row a (rw (answer-refused t f (requestOf (View row a)) l) at h))
 
 -- ---- a place is never empty: cell bits are never 0
 bits-there : (bits : ℕ) → 0 < bits → 0 < 8 * ceil8 bits
 bits-there bits h = omega arith
 
-module _ (t f : List ℕ) (l row : ℕ) (a : Asked) (h : answerOf t f (Place row a) l .refused ≡ 0) where
+module _ (t f : List ℕ) (l row : ℕ) (a : Asked) (h : answerOf t f (Place row a) l .refused .number ≡ 0) where
   abbrev p : Request
   p = requestOf (Place row a)
 

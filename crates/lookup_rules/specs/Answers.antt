@@ -1,11 +1,13 @@
--- RULES.md 7.7: each answer in the type of its question, and what each case of that type says: the refusal's number, 0
--- where nothing is refused, and the values; "A refusal carries its number and zeros".
+-- RULES.md 7.7: each answer in the type of its question, and what each case of that type says: the refusal, and the
+-- values; "A refusal carries its number and zeros", and beside them its byte.
 use Prim.Native.Nat.{ℕ, _/_}
 use mathlib.Core.List.{List}
 use mathlib.Core.Bool.{cond}
 use lib.ListN.{take, drop}
 use lib.Dec.{eqb}
 use mathlib.Core.Path.{_≡_}
+use Rattle.bytes_at.specs.declared.Refusal.{Refusal}
+use Rattle.bytes_at.specs.Stages.{noRefusal, OthersCarry0}
 use Rattle.standard_rules.specs.Place.{Bits}
 use Rattle.standard_rules.specs.Looks.{Looks}
 use Rattle.lookup_rules.specs.declared.Plan.{Plan}
@@ -21,40 +23,40 @@ use Rattle.lookup_rules.specs.Questions.{noPlan, noBits, noLooks, answer
 
 -- File check
 unfoldable pub verdictOf : Answer → Verdict
-verdictOf a = cond (eqb (a .refused) 0) Accepted (NotAccepted (a .refused))
+verdictOf a = cond (eqb (a .refused .number) 0) Accepted (NotAccepted (a .refused))
 
-abbrev pub verdictRefusal : Verdict → ℕ
-verdictRefusal Accepted = 0
-verdictRefusal (NotAccepted n) = n
+abbrev pub verdictRefusal : Verdict → Refusal
+verdictRefusal Accepted = noRefusal
+verdictRefusal (NotAccepted why) = why
 
 -- Plan
 unfoldable pub plannedOf : Answer → Planned
-plannedOf a = cond (eqb (a .refused) 0) (Ready (a .plan)) (NotPlanned (a .refused))
+plannedOf a = cond (eqb (a .refused .number) 0) (Ready (a .plan)) (NotPlanned (a .refused))
 
-abbrev pub plannedRefusal : Planned → ℕ
-plannedRefusal (Ready p) = 0
-plannedRefusal (NotPlanned n) = n
+abbrev pub plannedRefusal : Planned → Refusal
+plannedRefusal (Ready p) = noRefusal
+plannedRefusal (NotPlanned why) = why
 
 abbrev pub plannedPlan : Planned → Plan
 plannedPlan (Ready p) = p
-plannedPlan (NotPlanned n) = noPlan
+plannedPlan (NotPlanned why) = noPlan
 
 -- Place: "first bit and bit count, counted from the file's start"; "how many last-row entries the final search looked at", and how
 -- many the column's set has
 unfoldable pub placedOf : Answer → Placed
-placedOf a = cond (eqb (a .refused) 0) (At (a .first) (a .count) (a .looks) (a .entries)) (NotPlaced (a .refused))
+placedOf a = cond (eqb (a .refused .number) 0) (At (a .first) (a .count) (a .looks) (a .entries)) (NotPlaced (a .refused))
 
-abbrev pub placedRefusal : Placed → ℕ
-placedRefusal (At first count looks entries) = 0
-placedRefusal (NotPlaced n) = n
+abbrev pub placedRefusal : Placed → Refusal
+placedRefusal (At first count looks entries) = noRefusal
+placedRefusal (NotPlaced why) = why
 
 abbrev pub placedBits : Placed → Bits
 placedBits (At first count looks entries) = record { first = first; count = count }
-placedBits (NotPlaced n) = noBits
+placedBits (NotPlaced why) = noBits
 
 abbrev pub placedLooks : Placed → Looks
 placedLooks (At first count looks entries) = record { looks = looks; entries = entries }
-placedLooks (NotPlaced n) = noLooks
+placedLooks (NotPlaced why) = noLooks
 
 -- the bits, and the looks, of an answer
 abbrev pub answerBits : Answer → Bits
@@ -78,3 +80,7 @@ pub record Says (a : Answer) : Type 0 where
 
 abbrev pub EveryAnswer : Type 0
 EveryAnswer = (t f : List ℕ) (q : Question) (l : ℕ) → Says (answerOf t f q l)
+
+-- "Others carry 0": of every answer.
+abbrev pub EveryByte : Type 0
+EveryByte = (t f : List ℕ) (q : Question) (l : ℕ) → OthersCarry0 (answerOf t f q l .refused)

@@ -31,8 +31,8 @@ Places =
     → inStandard t sequence
     → carries t a sequence
     → carries t a′ sequence
-    → answerOf t f (Place row a) l .refused ≡ 0
-    → answerOf t f (Place row′ a′) l′ .refused ≡ 0
+    → answerOf t f (Place row a) l .refused .number ≡ 0
+    → answerOf t f (Place row′ a′) l′ .refused .number ≡ 0
     → Demand3 (mapOf (describedAs t) sequence f)
     (answerBits (answerOf t f (Place row a) l))
     (answerBits (answerOf t f (Place row′ a′) l′))
@@ -57,5 +57,5 @@ PlacesThere =
     (t f : List ℕ) (sequence l row : ℕ) (a : Asked)
     → inIncremental t sequence
     → carries t a sequence
-    → answerOf t f (Place row a) l .refused ≡ 0
+    → answerOf t f (Place row a) l .refused .number ≡ 0
     → SafeThere t f (answerBits (answerOf t f (Place row a) l)) row

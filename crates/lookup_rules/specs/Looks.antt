@@ -14,7 +14,7 @@ pub record Looked (t : List ℕ) (asked : Asked) (a : Answer) : Type 0 where
   -- "at most the bit length of the entry count less 1", and 12
   pub few : FewLooks (answerLooks a)
   -- "A refusal, or a place in IncrementalStMan, has count 0"
-  pub refused : (a .refused ≡ 0 → ⊥) → answerLooks a ≡ noLooks
+  pub refused : (a .refused .number ≡ 0 → ⊥) → answerLooks a ≡ noLooks
   pub incremental : (sequence : ℕ) → inIncremental t sequence → carries t asked sequence → answerLooks a ≡ noLooks
 
 -- Of every answer of Place, asked by position or by plan.

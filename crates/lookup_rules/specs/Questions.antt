@@ -6,7 +6,7 @@ use lib.ListN.{getD, replicate}
 use lib.Dec.{eqb, ltb}
 use Rattle.bytes_at.specs.Lists.{_⇒_, firstBelow}
 use Rattle.bytes_at.specs.Steps.{_>>=_}
-use Rattle.bytes_at.specs.Stages.{_▷_, orNo}
+use Rattle.bytes_at.specs.Stages.{noRefusal, _▷_, orNo}
 use Rattle.table_rules.specs.declared.Kind.{Kind}
 use Rattle.table_rules.specs.declared.Kind.the-variants.{Other, Standard, Incremental}
 use Rattle.table_rules.specs.declared.Manager.{Manager}
@@ -227,16 +227,16 @@ looksIn d incremental sequence f row position =
     let here = looksOf (mapOf d sequence f) row position in
     cond incremental noLooks here
 
--- "A refusal carries its number and zeros." Every other answer has the file's bucket size; a check answers no plan, and only a place
--- or a view has bits and looks.
+-- "A refusal carries its number and zeros", and beside them its byte. Every other answer has the file's bucket size; a check answers
+-- no plan, and only a place or a view has bits and looks.
 unfoldable pub answered : Request → Staged → Bits → Looks → Answer
 answered r s b n =
     let plan = cond (r .column) (s .plan) noPlan in
     let bits = cond (r .cell) b noBits in
     let looks = cond (r .cell) n noLooks in
-    cond (eqb (s .refused) 0)
+    cond (eqb (s .refused .number) 0)
     (record {
-      refused = 0;
+      refused = noRefusal;
       size = s .plan .size;
       plan = plan;
       first = bits .first;
@@ -258,7 +258,7 @@ answerFor t f r l =
 unfoldable pub roomFor : List ℕ → List ℕ → Request → ℕ → List ℕ
 roomFor t f r l =
     let s = stagesOf t f r l in
-    cond (eqb (s .refused) 0 && not (s .incremental))
+    cond (eqb (s .refused .number) 0 && not (s .incremental))
     (padded l (indexTextOf f (headerAt f (describedAs t .big))))
     (replicate l 0)
 

@@ -19,7 +19,7 @@ preparedNow t f p l = answerOf t f (Prepare (p .position)) l
 
 -- a plan can be made now, and is not p
 pub record Stale (t f : List ℕ) (p : Plan) (l : ℕ) : Type 0 where
-  pub made : preparedNow t f p l .refused ≡ 0
+  pub made : preparedNow t f p l .refused .number ≡ 0
   pub differs : preparedNow t f p l .plan ≡ p → ⊥
 
 -- what the stages before the plan's give, and the plan that would be made now
@@ -31,7 +31,7 @@ planOfNow t f r l = planFor (targetOf (describedAs t) r) (checkedFor t f r l)
 
 -- It is the plan's stage that refuses: those before it refuse nothing, and the plan is not the one that would be made now.
 pub record RefusedAsStale (t f : List ℕ) (r : Request) (l : ℕ) : Type 0 where
-  pub earlier : checkedFor t f r l .refused ≡ 0
+  pub earlier : checkedFor t f r l .refused .number ≡ 0
   pub stale : isFresh r (planOfNow t f r l) ≡ false
 
 -- What is answered to a request by the plan p, against the same request by the plan's position, and how the room is left.
@@ -40,14 +40,14 @@ pub record ByPlan (t f : List ℕ) (byPlan byPosition : Request) (p : Plan) (l :
   pub refused : Stale t f p l → RefusedAsStale t f byPlan l
   pub only : RefusedAsStale t f byPlan l → Stale t f p l
   -- with 12, and the room all zero
-  pub number : Stale t f p l → answerFor t f byPlan l .refused ≡ 12
+  pub number : Stale t f p l → answerFor t f byPlan l .refused ≡ record { number = 12; byte = 0 }
   pub room : Stale t f p l → roomFor t f byPlan l ≡ replicate l 0
   -- where the plan is the one that would be made now: what is answered for its position, and that room
-  pub fresh : preparedNow t f p l .refused ≡ 0 → preparedNow t f p l .plan ≡ p → answerFor t f byPlan l ≡ answerFor t f byPosition l
-  pub fresh-room : preparedNow t f p l .refused ≡ 0 → preparedNow t f p l .plan ≡ p → roomFor t f byPlan l ≡ roomFor t f byPosition l
+  pub fresh : preparedNow t f p l .refused .number ≡ 0 → preparedNow t f p l .plan ≡ p → answerFor t f byPlan l ≡ answerFor t f byPosition l
+  pub fresh-room : preparedNow t f p l .refused .number ≡ 0 → preparedNow t f p l .plan ≡ p → roomFor t f byPlan l ≡ roomFor t f byPosition l
   -- where no plan can be made now: that refusal, and the room all zero
-  pub unmade : (preparedNow t f p l .refused ≡ 0 → ⊥) → answerFor t f byPlan l .refused ≡ preparedNow t f p l .refused
-  pub unmade-room : (preparedNow t f p l .refused ≡ 0 → ⊥) → roomFor t f byPlan l ≡ replicate l 0
+  pub unmade : (preparedNow t f p l .refused .number ≡ 0 → ⊥) → answerFor t f byPlan l .refused ≡ preparedNow t f p l .refused
+  pub unmade-room : (preparedNow t f p l .refused .number ≡ 0 → ⊥) → roomFor t f byPlan l ≡ replicate l 0
 
 -- Of Place and of View, for every table, file, row, plan and room.
 abbrev pub EveryPlan : Type 0

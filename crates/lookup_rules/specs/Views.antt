@@ -16,14 +16,14 @@ pub record HoldsCell (f : List ℕ) (a : Answer) : Type 0 where
 
 -- Of every unrefused answer of View, in both managers, by position or by plan.
 abbrev pub EveryView : Type 0
-EveryView = (t f : List ℕ) (l row : ℕ) (a : Asked) → answerOf t f (View row a) l .refused ≡ 0 → HoldsCell f (answerOf t f (View row a) l)
+EveryView = (t f : List ℕ) (l row : ℕ) (a : Asked) → answerOf t f (View row a) l .refused .number ≡ 0 → HoldsCell f (answerOf t f (View row a) l)
 
 -- A view is of the bits that Place gives.
 abbrev pub ViewsPlace : Type 0
 ViewsPlace =
-    (t f : List ℕ) (l row : ℕ) (a : Asked) → answerOf t f (View row a) l .refused ≡ 0
+    (t f : List ℕ) (l row : ℕ) (a : Asked) → answerOf t f (View row a) l .refused .number ≡ 0
     → answerOf t f (View row a) l ≡ answerOf t f (Place row a) l
 
 -- A place that is not refused is never empty, and so is a view, since it is of the same bits.
 abbrev pub EveryPlaceHasBits : Type 0
-EveryPlaceHasBits = (t f : List ℕ) (l row : ℕ) (a : Asked) → answerOf t f (Place row a) l .refused ≡ 0 → 0 < answerOf t f (Place row a) l .count
+EveryPlaceHasBits = (t f : List ℕ) (l row : ℕ) (a : Asked) → answerOf t f (Place row a) l .refused .number ≡ 0 → 0 < answerOf t f (Place row a) l .count

@@ -1,5 +1,6 @@
 // The questions File check, Plan, Place and View (RULES.md 7), as definitions over the bytes of both files:
 // `specs/`. The code that answers them is in `lookup`.
+use bytes_at::Refusal;
 use standard_rules::Set;
 use table_rules::Binding;
 use table_rules::Column;
@@ -47,7 +48,7 @@ pub struct Request {
 // The column and the manager that a question is about: what the table says of the column and where it is kept, the manager's sequence
 // number, whether that is an IncrementalStMan, and the refusal so far.
 pub struct Target {
-    pub refused: usize,
+    pub refused: Refusal,
     pub position: usize,
     pub sequence: usize,
     pub incremental: bool,
@@ -56,9 +57,9 @@ pub struct Target {
 }
 
 // What the check of the manager's file tells: the bucket size; of a StandardStMan file where the column's set stands in the index
-// text, of an IncrementalStMan file where the cell that is asked for begins. Zeros and the number where it is refused.
+// text, of an IncrementalStMan file where the cell that is asked for begins. Zeros and the refusal where it is refused.
 pub struct FileChecked {
-    pub refused: usize,
+    pub refused: Refusal,
     pub size: usize,
     pub set: Set,
     pub first: usize,
@@ -67,7 +68,7 @@ pub struct FileChecked {
 // The refusal after all stages, the fresh plan, the manager's sequence number and whether it is an IncrementalStMan; where the
 // column's set stands in the index text, or where the cell of an IncrementalStMan file begins.
 pub struct Staged {
-    pub refused: usize,
+    pub refused: Refusal,
     pub plan: Plan,
     pub sequence: usize,
     pub incremental: bool,
@@ -75,10 +76,10 @@ pub struct Staged {
     pub first: usize,
 }
 
-// The number and zeros; or 0, the file's bucket size, the plan, and for a place or a view the first bit and the bit count, with the
+// The refusal and zeros; or none, the file's bucket size, the plan, and for a place or a view the first bit and the bit count, with the
 // looks of the search for it and the entries of the column's set.
 pub struct Answer {
-    pub refused: usize,
+    pub refused: Refusal,
     pub size: usize,
     pub plan: Plan,
     pub first: usize,
@@ -89,12 +90,12 @@ pub struct Answer {
 
 pub enum Verdict {
     Accepted,
-    Refused(usize),
+    Refused(Refusal),
 }
 
 pub enum Planned {
     Ready(Plan),
-    Refused(usize),
+    Refused(Refusal),
 }
 
 pub enum Placed {
@@ -104,5 +105,5 @@ pub enum Placed {
         looks: usize,
         entries: usize,
     },
-    Refused(usize),
+    Refused(Refusal),
 }

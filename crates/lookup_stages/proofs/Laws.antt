@@ -35,9 +35,9 @@ use Rattle.lookup_stages.specs.Stages.{targetBy}
 
 -- the stages after the file's check
 module _ (r : Request) (g : Target) (m : FileChecked) (rows : ℕ) {s : Staged} (e : s ≡ stagesAfter r g m rows) where
-  pub passed : s .refused ≡ 0 → m .refused ≡ 0
+  pub passed : s .refused .number ≡ 0 → m .refused .number ≡ 0
   unfolding stagesAfter _>>=_
-  passed z = then-left _ _ (then-left _ _ (then-left _ _ (sym (ap (λ (x : Staged). x .refused) e) ∙ z)))
+  passed z = then-left _ _ (then-left _ _ (then-left _ _ (sym (ap (λ (x : Staged). x .refused .number) e) ∙ z)))
 
   pub same-kind : s .incremental ≡ g .incremental
   unfolding stagesAfter _>>=_

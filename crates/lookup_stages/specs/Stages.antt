@@ -3,6 +3,7 @@
 use Prim.Native.Nat.{ℕ}
 use mathlib.Core.List.{List}
 use Rattle.bytes_at.specs.Steps.{_>>=_}
+use Rattle.bytes_at.specs.declared.Refusal.{Refusal}
 use Rattle.bytes_at.specs.Stages.{_▷_, orNo}
 use Rattle.table_rules.specs.declared.Column.{Column}
 use Rattle.table_rules.specs.declared.Binding.{Binding}
@@ -11,7 +12,7 @@ use Rattle.lookup_rules.specs.declared.Request.{Request}
 use Rattle.lookup_rules.specs.declared.Target.{Target}
 use Rattle.lookup_rules.specs.Questions.{isColumn, sequenceFor, kindWith, isPlaced, isHeld, isIncremental}
 
-unfoldable pub targetBy : ℕ → ℕ → List Manager → ℕ → Column → Binding → Request → Target
+unfoldable pub targetBy : Refusal → ℕ → List Manager → ℕ → Column → Binding → Request → Target
 targetBy refused columns managers count c b r = do
   known ← isColumn r columns
   r1 ← refused ▷ orNo known 8

@@ -22,8 +22,9 @@ fn finish(r: Request, g: Target, m: FileChecked, rows: usize) -> Staged
 {
     let p = crate::planning::plan_for(g, m);
     let s = m.set;
+    let r0 = m.refused;
     let fresh = lookup_question::tests::fresh(r, p);
-    let r1 = lookup_question::tests::stage(m.refused, fresh, 12);
+    let r1 = lookup_question::tests::stage(r0, fresh, 12);
     let below = lookup_question::tests::below(r, rows);
     let r2 = lookup_question::tests::stage(r1, below, 9);
     let seen = lookup_question::tests::seen(r, g.incremental, p.datatype);
@@ -42,7 +43,7 @@ fn finish(r: Request, g: Target, m: FileChecked, rows: usize) -> Staged
 // anything. The description is read here, where it lies: a function that takes it copies it. So StandardStMan's check is lent the
 // columns' numbers.
 pub fn stages(table: &[u8], file: &[u8], r: Request, room: &mut [u8]) -> Staged
-    ensures { λ s. ⌜ (s ≡ stagesOf (now (table .entry)) (now (file .entry)) r (length (now (room .entry)))) × (s .refused ≡ 0 → s .incremental ≡ false → now (room .exit) ≡ padded (length (now (room .entry))) (indexTextOf (now (file .entry)) (headerAt (now (file .entry)) (describedAs (now (table .entry)) .big)))) ⌝ }
+    ensures { λ s. ⌜ (s ≡ stagesOf (now (table .entry)) (now (file .entry)) r (length (now (room .entry)))) × (s .refused .number ≡ 0 → s .incremental ≡ false → now (room .exit) ≡ padded (length (now (room .entry))) (indexTextOf (now (file .entry)) (headerAt (now (file .entry)) (describedAs (now (table .entry)) .big)))) ⌝ }
     ensures bounded { λ s. ⌜ (s .plan .offset < 4294967296) × (s .plan .bits ≤ 4294967296) ⌝ }
 {
     let d = table::describe(table);
@@ -65,8 +66,9 @@ pub fn stages(table: &[u8], file: &[u8], r: Request, room: &mut [u8]) -> Staged
     if g.incremental {
         let there = incremental::check(d, file, g.sequence, g.refused, g.position, r.row);
         let none = standard_index::text::no_set();
+        let refused = there.refused;
         let found = FileChecked {
-            refused: there.refused,
+            refused: refused,
             size: there.size,
             set: none,
             first: there.first,
@@ -104,8 +106,9 @@ pub fn stages(table: &[u8], file: &[u8], r: Request, room: &mut [u8]) -> Staged
         room,
     );
     let set = here.set;
+    let refused = here.refused;
     let told = FileChecked {
-        refused: here.refused,
+        refused: refused,
         size: here.size,
         set: set,
         first: 0,

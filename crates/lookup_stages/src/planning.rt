@@ -8,6 +8,7 @@ ghost use Rattle.table_rules.specs.ColumnDesc.{noColumn};
 ghost use Rattle.table_rules.specs.ColumnSet.{noBinding};
 ghost use Rattle.lookup_rules.specs.Questions.{kindWith, isIncremental, isHeld, ifStandard, bitsIn, planFor};
 ghost use Rattle.lookup_stages.specs.Stages.{targetBy};
+use bytes_at::Refusal;
 use lookup_rules::FileChecked;
 use lookup_rules::Plan;
 use lookup_rules::Request;
@@ -87,7 +88,7 @@ pub fn is_held(kind: Kind, placed: bool) -> bool
 // The column and the manager; 8 where there is none. Of the description only the question's own column and binding are handed
 // over, so that the lists need not be copied.
 pub fn find_target(
-    refused: usize,
+    refused: Refusal,
     columns: usize,
     managers: [Manager; 16],
     count: usize,

@@ -7,8 +7,9 @@ use native.Mathlib.Omega.{arith}
 use borrow.Author.Tests.{ne-eqb}
 use lib.Dec.{leb, leb→le}
 use lib.ListN.{length, getD, take, drop}
-use Rattle.bytes_at.specs.Stages.{_▷_, orNo}
-use Rattle.bytes_at.proofs.Stages.{then-left, then-right, or-passed, stops, goes, regroup, no-is, yes-is}
+use Rattle.bytes_at.specs.Stages.{blaming, _▷_, orNo}
+use Rattle.bytes_at.specs.declared.Refusal.{Refusal}
+use Rattle.bytes_at.proofs.Stages.{then-left, then-right, or-passed, stops, goes, regroup, no-is, yes-is, passes}
 use Rattle.buckets.specs.Area.{Area}
 use Rattle.standard_rules.specs.Index.{indexOk, indexText, freeOk, noSet, indexAt, indexTextOf}
 use Rattle.standard_rules.specs.Check.{padded, longEnough, refusalWith, checkedWith}
@@ -23,15 +24,16 @@ use Rattle.standard_rules.specs.declared.Checked.{Checked}
 use Rattle.standard.specs.Check.{mapped, beforeIndex, refusedFile}
 
 -- ---- what the first stages show
-pub room-passed : (refused : ℕ) (h : Header) (len room : ℕ) → beforeIndex refused h len room ≡ 0 → h .length ≤ room
+pub room-passed : (refused : Refusal) (h : Header) (len room : ℕ) {n : Refusal} → n ≡ beforeIndex refused h len room → n .number ≡ 0 → h .length ≤ room
 unfolding beforeIndex
-room-passed refused h len room z =
-    leb→le (h .length) room (or-passed (leb (h .length) room) 12 (then-right _ _ (then-right _ _ (then-right _ _ z))))
+room-passed refused h len room e y =
+    let z = rw e at y in
+    leb→le (h .length) room (or-passed (leb (h .length) room) 12 _ (then-right _ _ (then-right _ _ (then-right _ _ z))))
 
-pub area-passed : (refused : ℕ) (h : Header) (f : List ℕ) (room : ℕ) → HeaderBounds h → beforeIndex refused h (length f) room ≡ 0 → Area f (h .size) (h .count)
+pub area-passed : (refused : Refusal) (h : Header) (f : List ℕ) (room : ℕ) → HeaderBounds h → {n : Refusal} → n ≡ beforeIndex refused h (length f) room → n .number ≡ 0 → Area f (h .size) (h .count)
 unfolding beforeIndex
-area-passed refused h f room b z = record {
-  holds = leb→le _ _ (or-passed (longEnough (length f) (h .size) (h .count)) 0 (then-left _ _ (then-right _ _ (then-right _ _ z))));
+area-passed refused h f room b e y = let z = rw e at y in record {
+  holds = leb→le _ _ (or-passed (longEnough (length f) (h .size) (h .count)) 0 _ (then-left _ _ (then-right _ _ (then-right _ _ z))));
   least = b .size-least (then-left _ _ (then-right _ _ z));
   most = b .size-most;
   few = b .count-most;
@@ -61,14 +63,14 @@ module _ (f : List ℕ) (h : Header) (l : ℕ) (area : Area f (h .size) (h .coun
     room-holds = room-is p
 
 -- ---- the whole refusal, and what is answered. h is the header that was read, and n, x and t what was found on the way.
-module _ (rows : ℕ) (big : Bool) (cs : List MapColumn) (f : List ℕ) (refused k l : ℕ) (h : Header) (e : h ≡ headerAt f big) where
+module _ (rows : ℕ) (big : Bool) (cs : List MapColumn) (f : List ℕ) (refused : Refusal) (k l : ℕ) (h : Header) (e : h ≡ headerAt f big) where
   -- the refusal is n
-  abbrev Refuses : ℕ → Type 0
+  abbrev Refuses : Refusal → Type 0
   Refuses n = refusalWith rows big cs f refused l ≡ n
 
   -- what is answered, and what is then said of the room
   abbrev Answers : Checked → Type 0 → Type 0
-  Answers r X = (r ≡ checkedWith rows big cs f refused k l) × (r .refused ≡ 0 → X)
+  Answers r X = (r ≡ checkedWith rows big cs f refused k l) × (r .refused .number ≡ 0 → X)
 
   abbrev indexed : Bool
   indexed = indexOk f (h .size) (h .count) (h .«index_count») (h .«first_index») (h .offset) (h .length)
@@ -89,41 +91,41 @@ module _ (rows : ℕ) (big : Bool) (cs : List MapColumn) (f : List ℕ) (refused
   staged = rw (same-map, ← e) (sym (rw (regroup, regroup, regroup)))
 
   -- the answer is refused with n, and nothing is said of the room
-  out : (n : ℕ) {r : Checked} {X : Type 0} → Refuses n → (n ≡ 0 → ⊥) → r ≡ refusedFile n → Answers r X
+  out : (n : Refusal) {r : Checked} {X : Type 0} → Refuses n → (n .number ≡ 0 → ⊥) → r ≡ refusedFile n → Answers r X
   unfolding checkedWith refusedFile
-  out n q z p = (p ∙ sym (rw (q, ne-eqb n 0 z)), λ w. absurd (z (sym (ap (λ (x : Checked). x .refused) p) ∙ w)))
+  out n q z p = (p ∙ sym (rw (q, ne-eqb (n .number) 0 z)), λ w. absurd (z (sym (ap (λ (x : Checked). x .refused .number) p) ∙ w)))
 
-  pub out-first : (n : ℕ) {r : Checked} {X : Type 0} → n ≡ beforeIndex refused h (length f) l → (n ≡ 0 → ⊥) → r ≡ refusedFile n → Answers r X
+  pub out-first : (n : Refusal) {r : Checked} {X : Type 0} → n ≡ beforeIndex refused h (length f) l → (n .number ≡ 0 → ⊥) → r ≡ refusedFile n → Answers r X
   out-first n q z p = out n (staged ∙ rw (← q) (stops n _ z)) z p
 
-  module _ {n : ℕ} (q : n ≡ beforeIndex refused h (length f) l) (z : n ≡ 0) where
+  module _ {n : Refusal} (q : n ≡ beforeIndex refused h (length f) l) (z : n .number ≡ 0) where
     after-first : Refuses (orNo indexed 10 ▷ (indexAt (indexTextOf f h) (h .sets) .refused ▷ (orNo freed 10 ▷ orNo fitting 11)))
-    after-first = staged ∙ goes _ _ (sym q ∙ z)
+    after-first = staged ∙ goes _ _ (rw q at z)
 
-    pub out-index : {i : Bool} {r : Checked} {X : Type 0} → i ≡ indexed → i ≡ false → r ≡ refusedFile 10 → Answers r X
-    out-index a b p = out 10 (after-first ∙ rw (no-is indexed 10 (sym a ∙ b)) (stops 10 _ (omega arith))) (omega arith) p
+    pub out-index : {i : Bool} {r : Checked} {X : Type 0} → i ≡ indexed → i ≡ false → r ≡ refusedFile (blaming 10 0) → Answers r X
+    out-index a b p = out (blaming 10 0) (after-first ∙ rw (no-is indexed 10 0 (sym a ∙ b)) (stops (blaming 10 0) _ (omega arith))) (omega arith) p
 
     module _ {i : Bool} (a : i ≡ indexed) (b : i ≡ true) {x : Index} (y : x ≡ indexAt (indexTextOf f h) (h .sets)) where
       after-index : Refuses (x .refused ▷ (orNo freed 10 ▷ orNo fitting 11))
-      after-index = after-first ∙ goes _ _ (yes-is indexed 10 (sym a ∙ b)) ∙ rw y
+      after-index = after-first ∙ goes _ _ (passes indexed 10 0 (sym a ∙ b)) ∙ rw y
 
-      pub out-text : {r : Checked} {X : Type 0} → (x .refused ≡ 0 → ⊥) → r ≡ refusedFile (x .refused) → Answers r X
+      pub out-text : {r : Checked} {X : Type 0} → (x .refused .number ≡ 0 → ⊥) → r ≡ refusedFile (x .refused) → Answers r X
       out-text w p = out (x .refused) (after-index ∙ stops (x .refused) _ w) w p
 
-      module _ (w : x .refused ≡ 0) where
-        pub out-free : {g : Bool} {r : Checked} {X : Type 0} → g ≡ freed → g ≡ false → r ≡ refusedFile 10 → Answers r X
-        out-free c v p = out 10 (after-index ∙ goes _ _ w ∙ rw (no-is freed 10 (sym c ∙ v)) (stops 10 _ (omega arith))) (omega arith) p
+      module _ (w : x .refused .number ≡ 0) where
+        pub out-free : {g : Bool} {r : Checked} {X : Type 0} → g ≡ freed → g ≡ false → r ≡ refusedFile (blaming 10 0) → Answers r X
+        out-free c v p = out (blaming 10 0) (after-index ∙ goes _ _ w ∙ rw (no-is freed 10 0 (sym c ∙ v)) (stops (blaming 10 0) _ (omega arith))) (omega arith) p
 
         module _ {t : Bool} (c : t ≡ freed) (v : t ≡ true) where
           after-free : {m : Bool} → m ≡ fits (mapFrom rows cs f h (setsFrom (indexTextOf f h) (x .sets) (h .sets) 0)) → Refuses (orNo m 11)
-          after-free u = after-index ∙ goes _ _ w ∙ goes _ _ (yes-is freed 10 (sym c ∙ v)) ∙ rw (u, y)
+          after-free u = after-index ∙ goes _ _ w ∙ goes _ _ (passes freed 10 0 (sym c ∙ v)) ∙ rw (u, y)
 
           module _ {m : Bool} (u : m ≡ fits (mapFrom rows cs f h (setsFrom (indexTextOf f h) (x .sets) (h .sets) 0))) {r : Checked} {room : List ℕ}
               (p : r ≡ mapped m (h .size) (getD (x .sets) k noSet)) (o : room ≡ padded l (indexTextOf f h)) where
             by-map : (b : Bool) → m ≡ b → Answers r (room ≡ padded l (indexTextOf f (headerAt f big)))
             unfolding mapped checkedWith
-            by-map false j = out 11 (after-free u ∙ no-is _ 11 j) (omega arith) (rw j at p)
-            by-map true j = ((rw j at p) ∙ sym (rw (after-free u ∙ yes-is _ 11 j, ← e, ← y)), λ z. rw (← e) o)
+            by-map false j = out (blaming 11 0) (after-free u ∙ no-is _ 11 0 j) (omega arith) (rw j at p)
+            by-map true j = ((rw j at p) ∙ sym (rw (after-free u ∙ yes-is _ 11 0 j, ← e, ← y)), λ z. rw (← e) o)
 
             pub out-map : Answers r (room ≡ padded l (indexTextOf f (headerAt f big)))
             out-map = by-map m refl

@@ -12,6 +12,7 @@ use Rattle.standard_rules.specs.declared.Set.{Set}
 use Rattle.standard_rules.specs.declared.Checked.{Checked}
 use Rattle.standard.specs.Sets.{rowsFit, dataBy}
 use Rattle.standard.specs.Columns.{columnsTest}
+use Rattle.bytes_at.specs.Stages.{noRefusal, blaming}
 use Rattle.standard.specs.Check.{mapped, refusedFile}
 use Rattle.standard.proofs.Gathering.{Gathering, sets-length, rows-in, data-in, counts-in, extents-in}
 
@@ -62,10 +63,10 @@ module _ (rows : ℕ) (cs : List MapColumn) (f : List ℕ) (h : Header) (text : 
   last p x q y t = rw (x, y) at (by p q t)
 
 -- ---- what the test of the map tells
-pub map-wrong : {m : Bool} {r : Checked} (size : ℕ) (set : Set) → false ≡ m → r ≡ refusedFile 11 → r ≡ mapped m size set
+pub map-wrong : {m : Bool} {r : Checked} (size : ℕ) (set : Set) → false ≡ m → r ≡ refusedFile (blaming 11 0) → r ≡ mapped m size set
 unfolding mapped
 map-wrong size set e p = rw (← e) p
 
-pub map-right : {m g : Bool} {size : ℕ} {set set′ : Set} → g ≡ m → g ≡ true → set ≡ set′ → _≡_ {A = Checked} (record { refused = 0; size = size; set = set }) (mapped m size set′)
+pub map-right : {m g : Bool} {size : ℕ} {set set′ : Set} → g ≡ m → g ≡ true → set ≡ set′ → _≡_ {A = Checked} (record { refused = noRefusal; size = size; set = set }) (mapped m size set′)
 unfolding mapped
 map-right e t p = rw (← e, t, p)

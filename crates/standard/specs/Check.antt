@@ -5,19 +5,20 @@ use lib.Dec.{leb}
 use Rattle.standard_rules.specs.Index.{noSet}
 use Rattle.standard_rules.specs.declared.Checked.{Checked}
 use Rattle.standard_rules.specs.declared.Set.{Set}
-use Rattle.bytes_at.specs.Stages.{_▷_, orNo}
+use Rattle.bytes_at.specs.declared.Refusal.{Refusal}
+use Rattle.bytes_at.specs.Stages.{noRefusal, _▷_, orAt, orNo}
 use Rattle.standard_rules.specs.declared.Header.{Header}
 use Rattle.standard_rules.specs.Check.{longEnough}
 
--- "A refusal carries its number and zeros."
-unfoldable pub refusedFile : ℕ → Checked
-refusedFile number = record { refused = number; size = 0; set = noSet }
+-- "A refusal carries its number and zeros", and beside them its byte.
+unfoldable pub refusedFile : Refusal → Checked
+refusedFile why = record { refused = why; size = 0; set = noSet }
 
 -- 11 where the map is not right, else the bucket size and the set that is asked for
 unfoldable pub mapped : Bool → ℕ → Set → Checked
-mapped ok size set = cond ok (record { refused = 0; size = size; set = set }) (refusedFile 11)
+mapped ok size set = cond ok (record { refused = noRefusal; size = size; set = set }) (refusedFile (record { number = 11; byte = 0 }))
 
 -- "header, file length (1), room (13)", after the refusal so far
-unfoldable pub beforeIndex : ℕ → Header → ℕ → ℕ → ℕ
+unfoldable pub beforeIndex : Refusal → Header → ℕ → ℕ → Refusal
 beforeIndex refused h len room =
-    refused ▷ h .refused ▷ orNo (longEnough len (h .size) (h .count)) 1 ▷ orNo (leb (h .length) room) 13
+    refused ▷ h .refused ▷ orAt (longEnough len (h .size) (h .count)) 1 len ▷ orNo (leb (h .length) room) 13

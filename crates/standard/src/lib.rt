@@ -16,6 +16,7 @@ ghost use Rattle.standard_rules.specs.Map.{fits, setsFrom, mapFrom};
 ghost use Rattle.standard.specs.Columns.{columnsBy};
 ghost use Rattle.standard_rules.specs.Check.{padded, checkedWith};
 ghost use Rattle.standard_rules.specs.Header.{headerAt};
+use bytes_at::Refusal;
 use standard_rules::Checked;
 use standard_rules::Header;
 use standard_rules::Set;
@@ -27,13 +28,13 @@ pub struct Located {
     pub entries: usize,
 }
 
-// A refused file: its number and zeros.
-fn refuse(number: usize) -> Checked
-    ensures { λ r. ⌜ r ≡ refusedFile number ⌝ }
+// A refused file: the refusal and zeros.
+fn refuse(why: Refusal) -> Checked
+    ensures { λ r. ⌜ r ≡ refusedFile why ⌝ }
 {
     let none = standard_index::text::no_set();
     Checked {
-        refused: number,
+        refused: why,
         size: 0,
         set: none,
     }
@@ -78,10 +79,16 @@ fn check_map(
         i += 1;
     }
     if !crate::sets::sets_fit(text, &entries, &pers, &lasts, m, rows) {
-        return refuse(11);
+        return refuse(Refusal {
+            number: 11,
+            byte: 0,
+        });
     }
     if !crate::columns::columns_fit(kept, owners, offsets, bits, n, &pers, &columns, m, size) {
-        return refuse(11);
+        return refuse(Refusal {
+            number: 11,
+            byte: 0,
+        });
     }
     if !crate::sets::buckets_apart(
         f,
@@ -96,43 +103,52 @@ fn check_map(
         h.free_count,
         h.first_free,
     ) {
-        return refuse(11);
+        return refuse(Refusal {
+            number: 11,
+            byte: 0,
+        });
     }
     if k < 16 {
         let set = sets[k];
         return Checked {
-            refused: 0,
+            refused: Refusal { number: 0, byte: 0 },
             size: size,
             set: set,
         };
     }
     let none = standard_index::text::no_set();
     Checked {
-        refused: 0,
+        refused: Refusal { number: 0, byte: 0 },
         size: size,
         set: none,
     }
 }
 
 // The refusal before the index is looked at: the one so far, the header's, the file's length (1), the room (13).
-fn before_index(refused: usize, h: Header, len: usize, room: usize) -> usize
+fn before_index(refused: Refusal, h: Header, len: usize, room: usize) -> Refusal
     requires { ⌜ (h .size ≤ 1048576) × (h .count ≤ 4096) ⌝ }
     ensures { λ r. ⌜ r ≡ beforeIndex refused h len room ⌝ }
 {
     let own = h.refused;
-    if refused != 0 {
+    if refused.number != 0 {
         return refused;
     }
-    if own != 0 {
+    if own.number != 0 {
         return own;
     }
     if !buckets::file::long_enough(len, h.size, h.count) {
-        return 1;
+        return Refusal {
+            number: 1,
+            byte: len,
+        };
     }
     if room < h.length {
-        return 13;
+        return Refusal {
+            number: 13,
+            byte: 0,
+        };
     }
-    0
+    Refusal { number: 0, byte: 0 }
 }
 
 // The check of a manager's file, after the refusal so far, where set k is asked for. Where nothing is refused, the room holds the
@@ -146,17 +162,17 @@ pub fn check(
     bits: &[usize; 64],
     n: usize,
     f: &[u8],
-    refused: usize,
+    refused: Refusal,
     k: usize,
     room: &mut [u8],
 ) -> Checked
     requires { ⌜ n ≤ 64 ⌝ }
     requires { ⌜ ((i : ℕ) → i < n → getD (now offsets) i 0 < 4294967296) × ((i : ℕ) → i < n → getD (now bits) i 0 < 4294967296) ⌝ }
-    ensures { λ r. ⌜ (r ≡ checkedWith rows big (columnsBy (now (kept .entry)) (now (owners .entry)) (now (offsets .entry)) (now (bits .entry)) n 0) (now (f .entry)) refused k (length (now (room .entry)))) × (r .refused ≡ 0 → now (room .exit) ≡ padded (length (now (room .entry))) (indexTextOf (now (f .entry)) (headerAt (now (f .entry)) big))) ⌝ }
+    ensures { λ r. ⌜ (r ≡ checkedWith rows big (columnsBy (now (kept .entry)) (now (owners .entry)) (now (offsets .entry)) (now (bits .entry)) n 0) (now (f .entry)) refused k (length (now (room .entry)))) × (r .refused .number ≡ 0 → now (room .exit) ≡ padded (length (now (room .entry))) (indexTextOf (now (f .entry)) (headerAt (now (f .entry)) big))) ⌝ }
 {
     let h = standard_index::header::read_header(f, big);
     let first = before_index(refused, h, f.len(), room.len());
-    if first != 0 {
+    if first.number != 0 {
         return refuse(first);
     }
     if !standard_index::chain::gather_index(
@@ -169,16 +185,22 @@ pub fn check(
         h.length,
         room,
     ) {
-        return refuse(10);
+        return refuse(Refusal {
+            number: 10,
+            byte: 0,
+        });
     }
     let text = bytes_at::part(room, 0, h.length);
     let index = standard_index::text::read_index(text, h.sets);
     let own = index.refused;
-    if own != 0 {
+    if own.number != 0 {
         return refuse(own);
     }
     if !buckets::free_list::free_list_ok(f, h.size, h.count, h.free_count, h.first_free) {
-        return refuse(10);
+        return refuse(Refusal {
+            number: 10,
+            byte: 0,
+        });
     }
     let sets = index.sets;
     check_map(f, h, text, sets, k, rows, kept, owners, offsets, bits, n)

@@ -4,6 +4,7 @@ ghost use Prim.Native.Nat.{_<_};
 ghost use Rattle.standard_rules.specs.Header.{bucketFieldsAt, offsetFits, indexFieldsAt, headed, headerAt, HeaderBounds};
 ghost use Rattle.standard_index.specs.Bounds.{HeaderWords};
 use aipsio_rules::Cursor;
+use bytes_at::Refusal;
 use bytes_at::Width;
 use standard_rules::BucketFields;
 use standard_rules::Header;
@@ -68,7 +69,7 @@ fn read_index_fields(s: &[u8], c: Cursor) -> IndexFields
     }
 }
 
-// The header, or zeros and the number where the cursor is refused.
+// The header, or zeros and the refusal where the cursor is refused.
 fn answer_header(c: Cursor, b: BucketFields, i: IndexFields) -> Header
     ensures { λ r. ⌜ r ≡ headed c b i ⌝ }
 {
@@ -84,7 +85,7 @@ fn answer_header(c: Cursor, b: BucketFields, i: IndexFields) -> Header
             offset: 0,
             length: 0,
             sets: 0,
-            refused: refused,
+            refused: aipsio::refusal(c),
         };
     }
     Header {
@@ -97,7 +98,7 @@ fn answer_header(c: Cursor, b: BucketFields, i: IndexFields) -> Header
         offset: i.offset,
         length: i.length,
         sets: i.sets,
-        refused: 0,
+        refused: Refusal { number: 0, byte: 0 },
     }
 }
 

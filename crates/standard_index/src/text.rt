@@ -5,6 +5,7 @@ ghost use lib.ListN.{length, getD};
 ghost use Rattle.standard_rules.specs.Index.{ssmIndexAt, noSet, setsAt, indexed, indexAt};
 ghost use Rattle.standard_index.specs.Bounds.{SetInside};
 use aipsio_rules::Cursor;
+use bytes_at::Refusal;
 use bytes_at::Width;
 use standard_rules::Index;
 use standard_rules::Set;
@@ -73,7 +74,7 @@ fn read_sets(s: &[u8], c: Cursor, width: Width, n: usize) -> Sets
     }
 }
 
-// The sets, or zeros and the number where the cursor is refused.
+// The sets, or zeros and the refusal where the cursor is refused.
 fn answer_index(c: Cursor, all: Sets) -> Index
     ensures { λ r. ⌜ r ≡ indexed c all ⌝ }
 {
@@ -82,13 +83,13 @@ fn answer_index(c: Cursor, all: Sets) -> Index
         let none = no_set();
         return Index {
             sets: [none; 16],
-            refused: refused,
+            refused: aipsio::refusal(c),
         };
     }
     let list = all.sets;
     Index {
         sets: list,
-        refused: 0,
+        refused: Refusal { number: 0, byte: 0 },
     }
 }
 
@@ -96,7 +97,7 @@ fn answer_index(c: Cursor, all: Sets) -> Index
 pub fn read_index(text: &[u8], n: usize) -> Index
     requires { ⌜ n ≤ 16 ⌝ }
     ensures { λ r. ⌜ r ≡ indexAt (now (text .entry)) n ⌝ }
-    ensures inside { λ r. ⌜ (r .refused ≡ 0 → (k : ℕ) → k < n → SetInside (length (now (text .entry))) 4 (getD (r .sets) k noSet)) ⌝ }
+    ensures inside { λ r. ⌜ (r .refused .number ≡ 0 → (k : ℕ) → k < n → SetInside (length (now (text .entry))) 4 (getD (r .sets) k noSet)) ⌝ }
 {
     let start = Cursor {
         at: 0,

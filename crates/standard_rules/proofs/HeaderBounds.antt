@@ -1,12 +1,15 @@
 -- The numbers of a header are in range.
 -- Assumes nothing.
-use mathlib.Core.Path.{_≡_}
+use mathlib.Core.Path.{_≡_, refl}
 use mathlib.Core.List.{List}
 use mathlib.Core.Bool.{Bool, true}
 use Prim.Native.Nat.{ℕ, _≤_, zero-le}
 use native.Mathlib.Decide.{ℕ-discrete}
 use borrow.Author.Tests.{eq-eqb, ne-eqb, leb-true}
 use Rattle.bytes_at.specs.Steps.{_>>=_}
+use Rattle.bytes_at.specs.declared.Refusal.{Refusal}
+use Rattle.bytes_at.specs.Stages.{noRefusal}
+use Rattle.aipsio_rules.specs.Field.{refusalIn}
 use Rattle.aipsio_rules.specs.declared.Cursor.{Cursor}
 use Rattle.aipsio_rules.proofs.Kept.{Clean, Keeps, clean-before, uint-reads, ranged-reads, judged-keeps, _⨟_}
 use Rattle.aipsio_rules.proofs.ObjectKept.{closed-keeps}
@@ -73,12 +76,12 @@ module _ (c : Cursor) (b : BucketFields) (i : IndexFields) where
         offset = i .offset;
         length = i .length;
         sets = i .sets;
-        refused = 0;
+        refused = noRefusal;
       } ≡ headed c b i
   unfolding headed
   headed-on h = rw (eq-eqb (c .refused) 0 h)
 
-  pub headed-off : (c .refused ≡ 0 → ⊥)
+  pub headed-off : (c .refused ≡ 0 → ⊥) → {why : Refusal} → why ≡ refusalIn c
       → record {
         size = 0;
         count = 0;
@@ -89,10 +92,10 @@ module _ (c : Cursor) (b : BucketFields) (i : IndexFields) where
         offset = 0;
         length = 0;
         sets = 0;
-        refused = c .refused;
+        refused = why;
       } ≡ headed c b i
   unfolding headed
-  headed-off h = rw (ne-eqb (c .refused) 0 h)
+  headed-off h e = rw (ne-eqb (c .refused) 0 h, e)
 
   headed-bounds : (Clean c → Clean (b .next)) → (Clean c → Clean (i .next)) → BucketBounds b → IndexBounds i → HeaderBounds (headed c b i)
   headed-bounds k l x y =
@@ -107,7 +110,7 @@ module _ (c : Cursor) (b : BucketFields) (i : IndexFields) where
           sets-least = λ e. y .sets-least (l h);
           offset-least = λ e. y .offset-least (l h);
         })
-        | no h ↦ rw (← (headed-off h)) (record {
+        | no h ↦ rw (← (headed-off h refl)) (record {
           size-most = zero-le;
           count-most = zero-le;
           length-most = zero-le;

@@ -10,3 +10,4 @@ pub mod Columns
 pub mod Counted
 pub mod Exactly
 pub mod Looks
+pub mod Blamed

@@ -7,8 +7,9 @@ use mathlib.Core.List.{List}
 use lib.ListN.{length}
 use Rattle.bytes_at.specs.Bytes.{bytes}
 use Rattle.bytes_at.specs.Steps.{_>>=_}
+use Rattle.bytes_at.specs.Stages.{noRefusal}
 use Rattle.aipsio_rules.specs.declared.Cursor.{Cursor}
-use Rattle.aipsio_rules.specs.Field.{judged, uintAt, numberAt, flagAt, markAt}
+use Rattle.aipsio_rules.specs.Field.{refusalIn, judged, uintAt, numberAt, flagAt, markAt}
 use Rattle.aipsio_rules.specs.Object.{opened, closed}
 use Rattle.standard_rules.specs.declared.BucketFields.{BucketFields}
 use Rattle.standard_rules.specs.declared.IndexFields.{IndexFields}
@@ -62,7 +63,7 @@ indexFieldsAt s c = do
     next = sets .next;
   }
 
--- "A refusal carries its number and zeros."
+-- "A refusal carries its number and zeros", and beside them its byte.
 unfoldable pub headed : Cursor → BucketFields → IndexFields → Header
 headed c b i =
     cond (eqb (c .refused) 0)
@@ -76,7 +77,7 @@ headed c b i =
       offset = i .offset;
       length = i .length;
       sets = i .sets;
-      refused = 0;
+      refused = noRefusal;
     })
     (record {
       size = 0;
@@ -88,7 +89,7 @@ headed c b i =
       offset = 0;
       length = 0;
       sets = 0;
-      refused = c .refused;
+      refused = refusalIn c;
     })
 
 -- the header of a file that is written in the byte order given, in a table of the endianness given
@@ -115,7 +116,7 @@ pub record HeaderBounds (h : Header) : Type 0 where
   pub count-most : h .count ≤ 4096
   pub length-most : h .length ≤ 65536
   pub sets-most : h .sets ≤ 16
-  pub size-least : h .refused ≡ 0 → 16 ≤ h .size
-  pub length-least : h .refused ≡ 0 → 1 ≤ h .length
-  pub sets-least : h .refused ≡ 0 → 1 ≤ h .sets
-  pub offset-least : h .refused ≡ 0 → (h .offset ≡ 0 → ⊥) → 8 ≤ h .offset
+  pub size-least : h .refused .number ≡ 0 → 16 ≤ h .size
+  pub length-least : h .refused .number ≡ 0 → 1 ≤ h .length
+  pub sets-least : h .refused .number ≡ 0 → 1 ≤ h .sets
+  pub offset-least : h .refused .number ≡ 0 → (h .offset ≡ 0 → ⊥) → 8 ≤ h .offset

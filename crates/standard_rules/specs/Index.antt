@@ -11,8 +11,9 @@ use Rattle.standard_rules.specs.declared.Header.{Header}
 use Rattle.bytes_at.specs.declared.Width.{Width}
 use Rattle.bytes_at.specs.Bytes.{bytes}
 use Rattle.bytes_at.specs.Steps.{_>>=_, after}
+use Rattle.bytes_at.specs.Stages.{noRefusal}
 use Rattle.aipsio_rules.specs.declared.Cursor.{Cursor}
-use Rattle.aipsio_rules.specs.Field.{minusOne, uintAt, numberAt, markAt, judged}
+use Rattle.aipsio_rules.specs.Field.{minusOne, refusalIn, uintAt, numberAt, markAt, judged}
 use Rattle.aipsio_rules.specs.Object.{opened, closed, blockAt, mapAt}
 use Rattle.standard_rules.specs.declared.SetRead.{SetRead}
 use Rattle.standard_rules.specs.declared.Set.{Set}
@@ -125,12 +126,12 @@ noSets c = record { sets = replicate 16 noSet; next = c }
 unfoldable pub setsAt : List ℕ → Cursor → Width → ℕ → Sets
 setsAt s c width n = after (setInto s width) (noSets c) n
 
--- "A refusal carries its number and zeros."
+-- "A refusal carries its number and zeros", and beside them its byte: "In index text bytes count from its start".
 unfoldable pub indexed : Cursor → Sets → Index
 indexed c all =
     cond (eqb (c .refused) 0)
-    (record { sets = all .sets; refused = 0 })
-    (record { sets = replicate 16 noSet; refused = c .refused })
+    (record { sets = all .sets; refused = noRefusal })
+    (record { sets = replicate 16 noSet; refused = refusalIn c })
 
 -- the n sets of an index text in the byte order given, with last rows of the width given.
 -- 7 where the "index text has a length other than its fields use": "text left over fails at its first byte"

@@ -1,6 +1,7 @@
 // The rules of StandardStMan files (RULES.md 5; Note 260, 3.4.2), as definitions over the bytes: `specs/`, in the
 // chapter's order. Here stand the types that they speak of. The code that follows them is in `standard_index` and `standard`.
 use aipsio_rules::Cursor;
+use bytes_at::Refusal;
 
 // The header's fields on buckets, and the cursor past them.
 pub struct BucketFields {
@@ -21,7 +22,7 @@ pub struct IndexFields {
     pub next: Cursor,
 }
 
-// The numbers of a header; zeros and the number where it is refused. `sets` is the number of indices.
+// The numbers of a header; zeros and the refusal where it is refused. `sets` is the number of indices.
 pub struct Header {
     pub size: usize,
     pub count: usize,
@@ -32,7 +33,7 @@ pub struct Header {
     pub offset: usize,
     pub length: usize,
     pub sets: usize,
-    pub refused: usize,
+    pub refused: Refusal,
 }
 
 // A set of columns: its numbers of entries, of rows in a bucket and of columns, and where in the text its last rows and its
@@ -57,16 +58,16 @@ pub struct Sets {
     pub next: Cursor,
 }
 
-// The sets of an index text; zeros and the number where it is refused.
+// The sets of an index text; zeros and the refusal where it is refused.
 pub struct Index {
     pub sets: [Set; 16],
-    pub refused: usize,
+    pub refused: Refusal,
 }
 
 // What the check of a file tells: the bucket size, and where the set that was asked for stands in the index text; zeros and the
-// number where it is refused.
+// refusal where it is refused.
 pub struct Checked {
-    pub refused: usize,
+    pub refused: Refusal,
     pub size: usize,
     pub set: Set,
 }

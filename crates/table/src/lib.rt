@@ -5,6 +5,7 @@ ghost use mathlib.Core.Path.{_≡_};
 ghost use Prim.Native.Nat.{_≤_};
 ghost use Rattle.table_rules.specs.Table.{tableHeadAt, tableDescHeadAt, refusedTable, describedAs};
 use aipsio_rules::Cursor;
+use bytes_at::Refusal;
 use bytes_at::Width;
 use table_rules::Description;
 use table_rules::TableDescHead;
@@ -42,15 +43,15 @@ fn read_desc_head(s: &[u8], c: Cursor) -> TableDescHead
     }
 }
 
-// A refusal carries its number and zeros.
-fn refuse(number: usize) -> Description
-    ensures { λ r. ⌜ r ≡ refusedTable number ⌝ }
+// A refusal, and zeros.
+fn refuse(why: Refusal) -> Description
+    ensures { λ r. ⌜ r ≡ refusedTable why ⌝ }
 {
     let column = table_column_desc::columns::no_column();
     let binding = table_column_set::bindings::no_binding();
     let manager = table_column_set::data_managers::no_manager();
     Description {
-        refused: number,
+        refused: why,
         rows: 0,
         column_count: 0,
         manager_count: 0,
@@ -101,7 +102,7 @@ pub fn describe(s: &[u8]) -> Description
     let d = aipsio::objects::close(is.next, m);
     let refused = d.refused;
     if refused != 0 {
-        return refuse(refused);
+        return refuse(aipsio::refusal(d));
     }
     let owners = os.owners;
     let starts = is.starts;
@@ -109,7 +110,7 @@ pub fn describe(s: &[u8]) -> Description
     let columns = cs.columns;
     let managers = ms.managers;
     Description {
-        refused: 0,
+        refused: Refusal { number: 0, byte: 0 },
         rows: head.rows,
         big: head.big,
         column_count: n.count,

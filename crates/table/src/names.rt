@@ -1,6 +1,7 @@
 // Column by name (RULES.md 4.11).
 ghost use mathlib.Core.Path.{_≡_};
 ghost use Rattle.table_rules.specs.Table.{columnNamed};
+use bytes_at::Refusal;
 use table_rules::Position;
 
 // The position of the column with a name; 8 where there is none.
@@ -9,7 +10,7 @@ pub fn column_by_name(s: &[u8], name: &[u8]) -> Position
 {
     let d = crate::describe(s);
     let refused = d.refused;
-    if refused != 0 {
+    if refused.number != 0 {
         return Position::Refused(refused);
     }
     let n = d.column_count;
@@ -21,5 +22,5 @@ pub fn column_by_name(s: &[u8], name: &[u8]) -> Position
         }
         i += 1;
     }
-    Position::Refused(8)
+    Position::Refused(Refusal { number: 8, byte: 0 })
 }

@@ -6,8 +6,12 @@ use mathlib.Core.Bool.{Bool, true, false, cond}
 use Prim.Native.Nat.{ℕ, zero, suc, _≤_, zero-le}
 use lib.Dec.{eqb}
 use lib.ListN.{length, getD, length-set, length-replicate}
+use Rattle.bytes_at.specs.declared.Refusal.{Refusal}
+use Rattle.bytes_at.specs.Stages.{OthersCarry0}
+use Rattle.bytes_at.proofs.Stages.{others-none, others-blaming}
 use Rattle.bytes_at.specs.Steps.{after, _>>=_}
 use Rattle.aipsio_rules.specs.declared.Cursor.{Cursor}
+use Rattle.aipsio_rules.specs.Field.{refusalIn}
 use Rattle.aipsio_rules.proofs.Bounds.{ranged-le}
 use Rattle.table_rules.specs.ColumnDesc.{noColumn, columnInto, noColumns, columnsAt}
 use Rattle.table_rules.specs.declared.Owner.{Owner}
@@ -38,6 +42,8 @@ pub record Described (d : Description) : Type 0 where
   pub bindings-places : length (d .bindings) ≡ 64
   -- the cells of a column that is none of Bools take whole bytes
   pub columns-whole : (i : ℕ) → Whole (getD (d .columns) i noColumn)
+  -- a byte other than 0 stands beside a refusal of 1 to 7 only
+  pub others : OthersCarry0 (d .refused)
 
 head-most : (s : List ℕ) (c : Cursor) → tableHeadAt s c .rows ≤ 2147483647
 unfolding tableHeadAt _>>=_
@@ -51,14 +57,15 @@ either : (b : Bool) (x y : Description) → Described x → Described y → Desc
 either true x y h k = h
 either false x y h k = k
 
-refused : (n : ℕ) → Described (refusedTable n)
+refused : (why : Refusal) → OthersCarry0 why → Described (refusedTable why)
 unfolding refusedTable
-refused n = record {
+refused why h = record {
   rows-most = zero-le;
   columns-most = zero-le;
   columns-places = length-replicate 64 noColumn;
   bindings-places = length-replicate 64 noBinding;
   columns-whole = no-columns-whole;
+  others = h;
 }
 
 -- a line of the definition
@@ -78,5 +85,6 @@ described t =
       columns-places = rw x (columns-long t (n .next) (n .count));
       bindings-places = rw y (bindings-long t (os .owners) (os .counts) (ms .ours) (is .starts) (n .count));
       columns-whole = rw x (columns-whole t (n .next) (n .count));
+      others = others-none;
     })
-    (refused (d .refused))))))))))))))))
+    (refused (refusalIn d) (others-blaming (d .refused) (d .at)))))))))))))))))

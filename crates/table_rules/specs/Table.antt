@@ -7,7 +7,7 @@ use lib.Dec.{leb, eqb, ltb}
 use mathlib.Core.Bool.{true, false, cond}
 use Rattle.bytes_at.specs.Bytes.{bytes}
 use Rattle.aipsio_rules.specs.declared.Cursor.{Cursor}
-use Rattle.aipsio_rules.specs.Field.{judged, numberAt, codeAt, nameAt, stringAt, markAt}
+use Rattle.aipsio_rules.specs.Field.{refusalIn, judged, numberAt, codeAt, nameAt, stringAt, markAt}
 use Rattle.bytes_at.specs.Steps.{_>>=_}
 use Rattle.table_rules.specs.declared.TableHead.{TableHead}
 use Rattle.aipsio_rules.specs.Object.{recordAt, opened, closed}
@@ -19,7 +19,8 @@ use Rattle.table_rules.specs.declared.Column.{Column}
 use Rattle.table_rules.specs.declared.Binding.{Binding}
 use Rattle.table_rules.specs.declared.Position.{Position}
 use Rattle.table_rules.specs.declared.Position.the-variants.{At, Refused}
-use Rattle.bytes_at.specs.Stages.{_▷_, orNo}
+use Rattle.bytes_at.specs.declared.Refusal.{Refusal}
+use Rattle.bytes_at.specs.Stages.{noRefusal, _▷_, orNo, OthersCarry0}
 
 -- the bytes of table.dat, AipsIO's own byte order: "at most 65,536 bytes (else 4, before anything is read)"
 abbrev pub wholeOf : List ℕ → Cursor
@@ -44,10 +45,10 @@ tableDescHeadAt s c = do
   n ← numberAt s private 4 1 64
   record { count = n .value; next = n .next }
 
--- "A refusal carries its number and zeros."
-unfoldable pub refusedTable : ℕ → Description
-refusedTable n = record {
-  refused = n;
+-- "A refusal carries its number and zeros", and beside them its byte.
+unfoldable pub refusedTable : Refusal → Description
+refusedTable why = record {
+  refused = why;
   rows = 0;
   «column_count» = 0;
   «manager_count» = 0;
@@ -76,7 +77,7 @@ describedAs s = do
   bindings ← bindingsAt s (os .owners) (os .counts) (ms .ours) (is .starts) (n .count)
   cond (eqb (d .refused) 0)
       (record {
-        refused = 0;
+        refused = noRefusal;
         rows = head .rows;
         «column_count» = n .count;
         «manager_count» = set .count;
@@ -85,7 +86,7 @@ describedAs s = do
         managers = ms .managers;
         big = head .big;
       })
-      (refusedTable (d .refused))
+      (refusedTable (refusalIn d))
 
 -- the column at a position, and its binding
 abbrev pub columnIn : Description → ℕ → Column
@@ -96,10 +97,10 @@ bindingIn d position = getD (d .bindings) position noBinding
 
 -- Cell bits are never 0: of every table that is not refused, every column.
 abbrev pub EveryColumnHasBits : Type 0
-EveryColumnHasBits = (t : List ℕ) (i : ℕ) → describedAs t .refused ≡ 0 → i < describedAs t .«column_count» → 0 < columnIn (describedAs t) i .bits
+EveryColumnHasBits = (t : List ℕ) (i : ℕ) → describedAs t .refused .number ≡ 0 → i < describedAs t .«column_count» → 0 < columnIn (describedAs t) i .bits
 
-abbrev pub positionOr : ℕ → ℕ → Position
-positionOr refused k = cond (eqb refused 0) (At k) (Refused refused)
+abbrev pub positionOr : Refusal → ℕ → Position
+positionOr refused k = cond (eqb (refused .number) 0) (At k) (Refused refused)
 
 -- Column by name: its position, from 0 in stored order, or 8
 unfoldable pub columnNamed : List ℕ → List ℕ → Position
@@ -108,11 +109,15 @@ columnNamed s name = do
   k ← firstNamed s (d .columns) (d .«column_count») name
   positionOr (d .refused ▷ orNo (ltb k (d .«column_count»)) 8) k
 
--- what each case of that answer says: the refusal's number, 0 where nothing is refused, and the position, 0 where it is refused
-abbrev pub positionRefusal : Position → ℕ
-positionRefusal (At k) = 0
-positionRefusal (Refused n) = n
+-- what each case of that answer says: the refusal, and the position, 0 where it is refused
+abbrev pub positionRefusal : Position → Refusal
+positionRefusal (At k) = noRefusal
+positionRefusal (Refused why) = why
 
 abbrev pub positionValue : Position → ℕ
 positionValue (At k) = k
-positionValue (Refused n) = 0
+positionValue (Refused why) = 0
+
+-- "Others carry 0": of every table, and of every name that is looked for.
+abbrev pub EveryTableByte : Type 0
+EveryTableByte = (t name : List ℕ) → OthersCarry0 (describedAs t .refused) × OthersCarry0 (positionRefusal (columnNamed t name))

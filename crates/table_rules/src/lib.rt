@@ -4,6 +4,7 @@ pub mod data_type;
 
 use crate::data_type::DataType;
 use aipsio_rules::Cursor;
+use bytes_at::Refusal;
 
 // What a column type string says: whether it is one, whether the cells are arrays, and the type of an element.
 pub struct ColumnType {
@@ -144,7 +145,7 @@ pub struct TableDescHead {
 
 // What table.dat says; zeros where it is refused. The columns stand in stored order, each with its binding.
 pub struct Description {
-    pub refused: usize,
+    pub refused: Refusal,
     pub rows: usize,
     pub column_count: usize,
     pub manager_count: usize,
@@ -157,5 +158,5 @@ pub struct Description {
 // A column's position, or the refusal.
 pub enum Position {
     At(usize),
-    Refused(usize),
+    Refused(Refusal),
 }

@@ -24,11 +24,11 @@ isPlace (Refused n) = 0
 
 -- an answer that is a place
 module _ (a : Answer) (first count looks entries : ℕ) (h : placedOf a ≡ At first count looks entries) where
-  unrefused : a .refused ≡ 0
+  unrefused : a .refused .number ≡ 0
   unfolding placedOf
-  unrefused = elim (ℕ-discrete (a .refused) 0) [
+  unrefused = elim (ℕ-discrete (a .refused .number) 0) [
     | yes e ↦ e
-    | no n ↦ absurd (refusal (rw (ne-eqb (a .refused) 0 n) at h))
+    | no n ↦ absurd (refusal (rw (ne-eqb (a .refused .number) 0 n) at h))
   ]
     where
       refusal : Refused (a .refused) ≡ At first count looks entries → ⊥
@@ -36,7 +36,7 @@ module _ (a : Answer) (first count looks entries : ℕ) (h : placedOf a ≡ At f
 
   at-place : At (a .first) (a .count) (a .looks) (a .entries) ≡ At first count looks entries
   unfolding placedOf
-  at-place = rw (eq-eqb (a .refused) 0 unrefused) at h
+  at-place = rw (eq-eqb (a .refused .number) 0 unrefused) at h
 
   same-bits : answerBits a ≡ record { first = first; count = count }
   same-bits = ap placedBits at-place

@@ -11,7 +11,7 @@ returns c =
     let d = c .before .before .before .before .before .before .describe .ensures .0 in
     let v = c .before .before .before .before .before .flag .ensures in
     let told = c .before .before .write .ensures in (
-      ap (λ (x : Description). x .refused) d,
+      ap (λ (x : Description). x .refused .number) d,
       rw (← d, ← v) told,
     )
 

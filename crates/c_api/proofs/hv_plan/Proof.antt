@@ -8,10 +8,10 @@ use Rattle.c_api.proofs.hv_plan.Tie as tie
 
 returns : tie.Need-returns
 returns c =
-    let a = c .before .before .before .before .before .before .before .before .before .ask .ensures in
+    let a = c .before .before .before .before .before .before .before .before .ask .ensures in
     let v = c .before .before .before .before .before .of-plan .ensures in
     let told = c .before .before .write .ensures in (
-      ap (λ (x : Answer). x .refused) (a .0),
+      ap (λ (x : Answer). x .refused .number) (a .0),
       rw (← (a .0), ← v) told,
       a .1,
     )

@@ -1,12 +1,15 @@
 -- Bounds of the numbers of a header.
 -- Assumes nothing.
-use mathlib.Core.Path.{_≡_}
+use mathlib.Core.Path.{_≡_, refl}
 use mathlib.Core.List.{List}
 use mathlib.Core.Bool.{Bool}
 use Prim.Native.Nat.{ℕ, _≤_, _<_, zero-le}
 use native.Mathlib.Decide.{ℕ-discrete}
 use native.Mathlib.Omega.{arith}
 use borrow.Author.Tests.{eq-eqb, ne-eqb}
+use Rattle.bytes_at.specs.declared.Refusal.{Refusal}
+use Rattle.bytes_at.specs.Stages.{noRefusal}
+use Rattle.aipsio_rules.specs.Field.{refusalIn}
 use Rattle.bytes_at.specs.Steps.{_>>=_}
 use Rattle.aipsio_rules.specs.declared.Cursor.{Cursor}
 use Rattle.aipsio_rules.proofs.Kept.{Clean, clean-before, uint-reads, ranged-reads, _⨟_}
@@ -37,27 +40,27 @@ field-bounds s c big = record {
 -- the answer: zeros where the cursor is refused
 module _ (c : Cursor) (h : HeaderFields) where
   pub headed-on : Clean c
-      → record { size = h .size; count = h .count; «free_count» = h .«free_count»; «first_free» = h .«first_free»; refused = 0 } ≡ headed c h
+      → record { size = h .size; count = h .count; «free_count» = h .«free_count»; «first_free» = h .«first_free»; refused = noRefusal } ≡ headed c h
   unfolding headed
   headed-on e = rw (eq-eqb (c .refused) 0 e)
 
-  pub headed-off : (c .refused ≡ 0 → ⊥)
-      → record { size = 0; count = 0; «free_count» = 0; «first_free» = 0; refused = c .refused } ≡ headed c h
+  pub headed-off : (c .refused ≡ 0 → ⊥) → {why : Refusal} → why ≡ refusalIn c
+      → record { size = 0; count = 0; «free_count» = 0; «first_free» = 0; refused = why } ≡ headed c h
   unfolding headed
-  headed-off e = rw (ne-eqb (c .refused) 0 e)
+  headed-off e p = rw (ne-eqb (c .refused) 0 e, p)
 
   headed-bounds : (Clean c → Clean (h .next)) → FieldBounds h → HeaderBounds (headed c h)
   headed-bounds k x =
       elim (ℕ-discrete (c .refused) 0) [
         | yes e ↦ rw (← (headed-on e)) (record { size-most = x .size-most; count-most = x .count-most; size-least = λ z. x .size-least (k e) })
-        | no e ↦ rw (← (headed-off e)) (record { size-most = zero-le; count-most = zero-le; size-least = λ z. absurd (e z) })
+        | no e ↦ rw (← (headed-off e refl)) (record { size-most = zero-le; count-most = zero-le; size-least = λ z. absurd (e z) })
       ]
 
   pub headed-words : (h .«free_count» < 4294967296) × (h .«first_free» < 4294967296) → HeaderWords (headed c h)
   headed-words x =
       elim (ℕ-discrete (c .refused) 0) [
         | yes e ↦ rw (← (headed-on e)) (record { free-count = x .0; first-free = x .1 })
-        | no e ↦ rw (← (headed-off e)) (record { free-count = omega arith; first-free = omega arith })
+        | no e ↦ rw (← (headed-off e refl)) (record { free-count = omega arith; first-free = omega arith })
       ]
 
 -- Every header's numbers are in range.

@@ -1,4 +1,4 @@
--- `incremental::refuse` meets its contract: the number and zeros.
+-- `incremental::refuse` meets its contract: the refusal and zeros.
 use mathlib.Core.Path.{refl}
 use Rattle.incremental.specs.Check.{refusedFile}
 use Rattle.incremental.proofs.refuse.Statement.{statement}

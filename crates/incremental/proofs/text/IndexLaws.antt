@@ -1,17 +1,19 @@
 -- The lists of an index that is not refused lie in the file.
 -- Assumes nothing.
 use mathlib.Core.Bool.{Bool}
-use mathlib.Core.Path.{_≡_}
+use mathlib.Core.Path.{_≡_, refl}
 use mathlib.Core.List.{List}
 use Prim.Native.Nat.{ℕ, _+_}
 use native.Mathlib.Omega.{arith}
 use lib.ListN.{length}
 use borrow.Author.Tests.{eq-eqb, ne-eqb}
 use native.Mathlib.Decide.{ℕ-discrete}
+use Rattle.bytes_at.specs.declared.Refusal.{Refusal}
+use Rattle.bytes_at.specs.Stages.{noRefusal}
 use Rattle.bytes_at.specs.Bytes.{bytes}
 use Rattle.bytes_at.specs.Steps.{_>>=_}
 use Rattle.aipsio_rules.specs.declared.Cursor.{Cursor}
-use Rattle.aipsio_rules.specs.Field.{uintAt, markAt}
+use Rattle.aipsio_rules.specs.Field.{refusalIn, uintAt, markAt}
 use Rattle.aipsio_rules.specs.Object.{opened, closed, blockAt}
 use Rattle.aipsio_rules.proofs.Kept.{Clean, clean-before}
 use Rattle.aipsio_rules.proofs.ObjectKept.{closed-keeps}
@@ -24,25 +26,25 @@ use Rattle.incremental.specs.Bounds.{IndexInside}
 
 -- the answer: zeros where the cursor is refused
 module _ (c : Cursor) (count firsts buckets : ℕ) where
-  pub indexed-on : Clean c → record { count = count; firsts = firsts; buckets = buckets; refused = 0 } ≡ indexed c count firsts buckets
+  pub indexed-on : Clean c → record { count = count; firsts = firsts; buckets = buckets; refused = noRefusal } ≡ indexed c count firsts buckets
   unfolding indexed
   indexed-on e = rw (eq-eqb (c .refused) 0 e)
 
-  pub indexed-off : (c .refused ≡ 0 → ⊥) → record { count = 0; firsts = 0; buckets = 0; refused = c .refused } ≡ indexed c count firsts buckets
+  pub indexed-off : (c .refused ≡ 0 → ⊥) → {why : Refusal} → why ≡ refusalIn c → record { count = 0; firsts = 0; buckets = 0; refused = why } ≡ indexed c count firsts buckets
   unfolding indexed
-  indexed-off e = rw (ne-eqb (c .refused) 0 e)
+  indexed-off e p = rw (ne-eqb (c .refused) 0 e, p)
 
   -- an answer with no refusal has the lists that were read
-  indexed-clean : indexed c count firsts buckets .refused ≡ 0
-      → (Clean c) × (indexed c count firsts buckets ≡ record { count = count; firsts = firsts; buckets = buckets; refused = 0 })
+  indexed-clean : indexed c count firsts buckets .refused .number ≡ 0
+      → (Clean c) × (indexed c count firsts buckets ≡ record { count = count; firsts = firsts; buckets = buckets; refused = noRefusal })
   indexed-clean z =
       elim (ℕ-discrete (c .refused) 0) [
         | yes e ↦ (e, rw (← (indexed-on e)))
-        | no e ↦ absurd (e (rw (← (indexed-off e)) at z))
+        | no e ↦ absurd (e (rw (← (indexed-off e refl)) at z))
       ]
 
 module _ (s : List ℕ) (order : Bool) (each at : ℕ) where
-  pub index-inside : indexIn s order each at .refused ≡ 0 → IndexInside (length s) each (indexIn s order each at)
+  pub index-inside : indexIn s order each at .refused .number ≡ 0 → IndexInside (length s) each (indexIn s order each at)
   unfolding indexIn _>>=_
   index-inside z =
       let start : Cursor = record { at = at; end = length s; big = order; refused = 0 } in
@@ -62,5 +64,5 @@ module _ (s : List ℕ) (order : Bool) (each at : ℕ) where
         buckets-inside = omega (arith, block-inside s (a .next) (n .value) 4 hb, start-to-a .ends ha);
       })
 
-  pub index-answered : {x : Index} → x ≡ indexIn s order each at → (x ≡ indexIn s order each at) × (x .refused ≡ 0 → IndexInside (length s) each x)
+  pub index-answered : {x : Index} → x ≡ indexIn s order each at → (x ≡ indexIn s order each at) × (x .refused .number ≡ 0 → IndexInside (length s) each x)
   index-answered {x} q = (q, λ z. rw q (index-inside (rw q at z)))

@@ -5,10 +5,10 @@ use Rattle.listing.proofs.list.Statement.{statement}
 use Rattle.listing.proofs.list.Tie as tie
 
 abbrev Inv-loop : tie.InvT-loop
-Inv-loop s refused columns bindings count whole₀ i₀ whole i = (i ≤ count) × (count ≤ 64)
+Inv-loop s columns bindings count whole₀ i₀ whole i = (i ≤ count) × (count ≤ 64)
 
 abbrev μ-loop : tie.MeasureT-loop
-μ-loop s refused columns bindings count whole₀ i₀ whole i = count - i
+μ-loop s columns bindings count whole₀ i₀ whole i = count - i
 
 pub list-spec : {M : Type 1} → statement M
 list-spec =

@@ -10,6 +10,8 @@ use native.Mathlib.Omega.{arith}
 use lib.Dec.{T}
 use lib.ListN.{length, getD, replicate, length-append}
 use borrow.Author.Tests.{eq-eqb, ne-eqb}
+use Rattle.bytes_at.specs.declared.Refusal.{Refusal}
+use Rattle.bytes_at.specs.Stages.{noRefusal}
 use Rattle.bytes_at.specs.Steps.{_>>=_}
 use Rattle.table_rules.specs.declared.Column.{Column}
 use Rattle.table_rules.specs.declared.Binding.{Binding}
@@ -61,7 +63,7 @@ longer h i = record {
 }
 
 -- ---- where nothing is refused, of a question that asks for a cell of a StandardStMan file
-module _ (t f : List ℕ) (r : Request) (l : ℕ) (z : stagesOf t f r l .refused ≡ 0) (w : Cell r)
+module _ (t f : List ℕ) (r : Request) (l : ℕ) (z : stagesOf t f r l .refused .number ≡ 0) (w : Cell r)
     (k : targetOf (describedAs t) r .incremental ≡ false) where
   abbrev d : Description
   d = describedAs t
@@ -81,7 +83,7 @@ module _ (t f : List ℕ) (r : Request) (l : ℕ) (z : stagesOf t f r l .refused
   abbrev m : Map
   m = mapOf d sequence f
 
-  abbrev before : ℕ
+  abbrev before : Refusal
   before = targetOf d r .refused
 
   abbrev text : List ℕ
@@ -94,8 +96,8 @@ module _ (t f : List ℕ) (r : Request) (l : ℕ) (z : stagesOf t f r l .refused
   own : b .sequence ≡ sequence
   own = sym (target-sequence d r ∙ cell-sequence r (b .sequence) w)
 
-  passes : refusalOf d sequence f before l ≡ 0
-  passes = sym (standard-refused d (targetOf d r) f l k row) ∙ check-of t f r l z
+  passes : refusalOf d sequence f before l .number ≡ 0
+  passes = rw (standard-refused d (targetOf d r) f l k row) at (check-of t f r l z)
 
   known : c < d .«column_count»
   known = cell-column r (d .«column_count») w (target-column d r (target-passed d (targetOf d r) f l row (check-of t f r l z)))
@@ -181,7 +183,7 @@ module _ (t f : List ℕ) (r : Request) (l : ℕ) (z : stagesOf t f r l .refused
 
 -- ---- the same in IncrementalStMan, where the check has found the cell already
 module _ (t f : List ℕ) (r : Request) (l : ℕ) (k : targetOf (describedAs t) r .incremental ≡ true) where
-  there-first : stagesOf t f r l .refused ≡ 0 → Cell r
+  there-first : stagesOf t f r l .refused .number ≡ 0 → Cell r
       → stagesOf t f r l .first ≡ incrementalPlace (describedAs t) (targetOf (describedAs t) r .sequence) f (r .position) (r .row) .first
   there-first z w =
       let d = describedAs t in
@@ -191,7 +193,7 @@ module _ (t f : List ℕ) (r : Request) (l : ℕ) (k : targetOf (describedAs t) 
       ∙ ap (λ (m : FileChecked). m .first) (file-incremental d g f l k (r .row))
       ∙ ap (λ (c : ℕ). incrementalAs d (g .sequence) f (g .refused) c (r .row) .first) (target-position d r)
       ∙ checked-there d (g .sequence) f (g .refused)
-      (sym (incremental-refused d g f l k (r .row)) ∙ passed)
+      (rw (incremental-refused d g f l k (r .row)) at passed)
       (described t .columns-most)
       (r .position)
       (r .row)
@@ -211,27 +213,27 @@ module _ (y : List ℕ) (s : Staged) (r : Request) where
   abbrev there : Located
   there = record { first = s .first; looks = 0; entries = 0 }
 
-  cell-here : s .refused ≡ 0 → r .cell ≡ true → s .incremental ≡ false → cellFound y s r ≡ here
+  cell-here : s .refused .number ≡ 0 → r .cell ≡ true → s .incremental ≡ false → cellFound y s r ≡ here
   unfolding cellFound
-  cell-here z w k = rw (eq-eqb (s .refused) 0 z, w, k)
+  cell-here z w k = rw (eq-eqb (s .refused .number) 0 z, w, k)
 
-  cell-there : s .refused ≡ 0 → r .cell ≡ true → s .incremental ≡ true → cellFound y s r ≡ there
+  cell-there : s .refused .number ≡ 0 → r .cell ≡ true → s .incremental ≡ true → cellFound y s r ≡ there
   unfolding cellFound
-  cell-there z w k = rw (eq-eqb (s .refused) 0 z, w, k)
+  cell-there z w k = rw (eq-eqb (s .refused .number) 0 z, w, k)
 
-  pub cell-refused : {x : Located} → x ≡ noCell → (s .refused ≡ 0 → ⊥) → x ≡ cellFound y s r
+  pub cell-refused : {x : Located} → x ≡ noCell → (s .refused .number ≡ 0 → ⊥) → x ≡ cellFound y s r
   unfolding cellFound
-  cell-refused e n = rw (ne-eqb (s .refused) 0 n) e
+  cell-refused e n = rw (ne-eqb (s .refused .number) 0 n) e
 
-  pub cell-none : {x : Located} → x ≡ noCell → s .refused ≡ 0 → r .cell ≡ false → x ≡ cellFound y s r
+  pub cell-none : {x : Located} → x ≡ noCell → s .refused .number ≡ 0 → r .cell ≡ false → x ≡ cellFound y s r
   unfolding cellFound
-  cell-none e z n = rw (eq-eqb (s .refused) 0 z, n) e
+  cell-none e z n = rw (eq-eqb (s .refused .number) 0 z, n) e
 
-  module _ (z : s .refused ≡ 0) (w : r .cell ≡ true) where
+  module _ (z : s .refused .number ≡ 0) (w : r .cell ≡ true) where
     pub found-there : s .incremental ≡ true → there ≡ cellFound y s r
     found-there i = sym (cell-there z w i)
 
-    module _ (i : s .incremental ≡ false) (h : s .refused ≡ 0 → r .cell ≡ true → s .incremental ≡ false → Findable y s (r .row)) where
+    module _ (i : s .incremental ≡ false) (h : s .refused .number ≡ 0 → r .cell ≡ true → s .incremental ≡ false → Findable y s (r .row)) where
       pub can-find : Findable y s (r .row)
       can-find = h z w i
 
@@ -240,21 +242,21 @@ module _ (y : List ℕ) (s : Staged) (r : Request) where
 
 -- ---- `answer`
 module _ (r : Request) (s : Staged) (x : Located) where
-  pub answer-refused : {p : Plan} → p ≡ noPlan → (s .refused ≡ 0 → ⊥)
+  pub answer-refused : {p : Plan} → p ≡ noPlan → (s .refused .number ≡ 0 → ⊥)
       → record { refused = s .refused; size = 0; plan = p; first = 0; count = 0; looks = 0; entries = 0 } ≡ answerWith r s x
   unfolding answered
-  answer-refused e n = rw (ne-eqb (s .refused) 0 n, e)
+  answer-refused e n = rw (ne-eqb (s .refused .number) 0 n, e)
 
-  pub answer-cell : {p : Plan} → s .refused ≡ 0 → r .cell ≡ true → p ≡ cond (r .column) (s .plan) noPlan
-      → record { refused = 0; size = s .plan .size; plan = p; first = x .first; count = s .plan .bits; looks = x .looks; entries = x .entries }
+  pub answer-cell : {p : Plan} → s .refused .number ≡ 0 → r .cell ≡ true → p ≡ cond (r .column) (s .plan) noPlan
+      → record { refused = noRefusal; size = s .plan .size; plan = p; first = x .first; count = s .plan .bits; looks = x .looks; entries = x .entries }
       ≡ answerWith r s x
   unfolding answered
-  answer-cell z k e = rw (eq-eqb (s .refused) 0 z, k, e)
+  answer-cell z k e = rw (eq-eqb (s .refused .number) 0 z, k, e)
 
-  pub answer-none : {p : Plan} → s .refused ≡ 0 → r .cell ≡ false → p ≡ cond (r .column) (s .plan) noPlan
-      → record { refused = 0; size = s .plan .size; plan = p; first = 0; count = 0; looks = 0; entries = 0 } ≡ answerWith r s x
+  pub answer-none : {p : Plan} → s .refused .number ≡ 0 → r .cell ≡ false → p ≡ cond (r .column) (s .plan) noPlan
+      → record { refused = noRefusal; size = s .plan .size; plan = p; first = 0; count = 0; looks = 0; entries = 0 } ≡ answerWith r s x
   unfolding answered
-  answer-none z k e = rw (eq-eqb (s .refused) 0 z, k, e)
+  answer-none z k e = rw (eq-eqb (s .refused .number) 0 z, k, e)
 
 -- ---- the answer, by what the calls of `ask` give
 -- a refusal carries no bits and no looks, nor does a question that asks for no cell
@@ -263,11 +265,11 @@ same-cell true p p′ n h = h tt
 same-cell false p p′ n h = refl
 
 module _ (r : Request) (s : Staged) {p p′ : Bits} {n n′ : Looks} where
-  answered-same : (s .refused ≡ 0 → T (r .cell) → p ≡ p′) → (s .refused ≡ 0 → T (r .cell) → n ≡ n′) → answered r s p n ≡ answered r s p′ n′
+  answered-same : (s .refused .number ≡ 0 → T (r .cell) → p ≡ p′) → (s .refused .number ≡ 0 → T (r .cell) → n ≡ n′) → answered r s p n ≡ answered r s p′ n′
   unfolding answered
-  answered-same h k = elim (ℕ-discrete (s .refused) 0) [
-    | yes e ↦ rw (eq-eqb (s .refused) 0 e, same-cell (r .cell) p p′ noBits (h e), same-cell (r .cell) n n′ noLooks (k e))
-    | no g ↦ rw (ne-eqb (s .refused) 0 g)
+  answered-same h k = elim (ℕ-discrete (s .refused .number) 0) [
+    | yes e ↦ rw (eq-eqb (s .refused .number) 0 e, same-cell (r .cell) p p′ noBits (h e), same-cell (r .cell) n n′ noLooks (k e))
+    | no g ↦ rw (ne-eqb (s .refused .number) 0 g)
   ]
 
 same-bits : {p : Bits} {first count : ℕ} → first ≡ p .first → count ≡ p .count → record { first = first; count = count } ≡ p
@@ -281,7 +283,7 @@ abbrev looksFound : Located → Looks
 looksFound x = record { looks = x .looks; entries = x .entries }
 
 module _ (t f : List ℕ) (q : Question) (l : ℕ) {r : Request} (o : r ≡ requestOf q) {s : Staged} {y : List ℕ} (e : s ≡ stagesOf t f r l)
-    (h : s .refused ≡ 0 → s .incremental ≡ false → y ≡ padded l (indexTextOf f (headerAt f (describedAs t .big)))) where
+    (h : s .refused .number ≡ 0 → s .incremental ≡ false → y ≡ padded l (indexTextOf f (headerAt f (describedAs t .big)))) where
   -- the place of the cell, and the search for it
   abbrev place : Bits
   place = placeIn (describedAs t) (s .incremental) (s .sequence) f (r .row) (r .position)
@@ -299,10 +301,10 @@ module _ (t f : List ℕ) (q : Question) (l : ℕ) {r : Request} (o : r ≡ requ
   asked : r .cell ≡ true → Cell r
   asked w = rw o (cell-asked q (rw (← o, w) tt))
 
-  pub findable-by : s .plan .offset < 4294967296 → s .plan .bits ≤ 4294967296 → s .refused ≡ 0 → r .cell ≡ true → s .incremental ≡ false → Findable y s (r .row)
+  pub findable-by : s .plan .offset < 4294967296 → s .plan .bits ≤ 4294967296 → s .refused .number ≡ 0 → r .cell ≡ true → s .incremental ≡ false → Findable y s (r .row)
   findable-by o n z w k = rw e (findable t f r l (rw e at z) (asked w) (kind k) (h z k) (rw e at o) (rw e at n))
 
-  module _ (z : s .refused ≡ 0) (w : r .cell ≡ true) where
+  module _ (z : s .refused .number ≡ 0) (w : r .cell ≡ true) where
     placed : (b : Bool) → s .incremental ≡ b → bitsFound (cellFound y s r) (s .plan .bits) ≡ place
     placed false k =
         rw (cell-here y s r z w k, k, same-sequence, place-standard (describedAs t) _ f (r .row) (r .position))

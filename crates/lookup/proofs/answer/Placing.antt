@@ -7,6 +7,7 @@ use Prim.Native.Nat.{ℕ, _≤_, _<_}
 use lib.Dec.{T}
 use lib.ListN.{length, getD}
 use borrow.Author.Tests.{eq-eqb}
+use Rattle.bytes_at.specs.declared.Refusal.{Refusal}
 use Rattle.bytes_at.specs.declared.Width.the-variants.{Four}
 use Rattle.bytes_at.proofs.Stages.{then-left, then-right}
 use Rattle.table_rules.specs.declared.Description.{Description}
@@ -21,27 +22,27 @@ use Rattle.standard_rules.proofs.HeaderBounds.{header-bounds}
 use Rattle.lookup_rules.proofs.Places.{map-fits}
 use Rattle.standard_rules.specs.Check.{refusalWith, checkedWith, refusalOf, checkedAs}
 
-module _ (d : Description) (sequence : ℕ) (f : List ℕ) (refused l : ℕ) where
-  index-passed : refusalOf d sequence f refused l ≡ 0 → indexAt (indexTextOf f (headerAt f (d .big))) (headerAt f (d .big) .sets) .refused ≡ 0
+module _ (d : Description) (sequence : ℕ) (f : List ℕ) (refused : Refusal) (l : ℕ) where
+  index-passed : refusalOf d sequence f refused l .number ≡ 0 → indexAt (indexTextOf f (headerAt f (d .big))) (headerAt f (d .big) .sets) .refused .number ≡ 0
   unfolding refusalWith
   index-passed z = search (then-left, then-right) depth 9
 
   -- the set and the bucket size that the check tells are the file's
-  pub set-told : refusalOf d sequence f refused l ≡ 0
+  pub set-told : refusalOf d sequence f refused l .number ≡ 0
       → (k : ℕ) → checkedAs d sequence f refused k l .set ≡ getD (indexAt (indexTextOf f (headerAt f (d .big))) (headerAt f (d .big) .sets) .sets) k noSet
   unfolding checkedWith
-  set-told z k = rw (eq-eqb (refusalOf d sequence f refused l) 0 z)
+  set-told z k = rw (eq-eqb (refusalOf d sequence f refused l .number) 0 z)
 
-  pub size-told : refusalOf d sequence f refused l ≡ 0 → (k : ℕ) → checkedAs d sequence f refused k l .size ≡ mapOf d sequence f .size
+  pub size-told : refusalOf d sequence f refused l .number ≡ 0 → (k : ℕ) → checkedAs d sequence f refused k l .size ≡ mapOf d sequence f .size
   unfolding checkedWith mapWith
-  size-told z k = rw (eq-eqb (refusalOf d sequence f refused l) 0 z)
+  size-told z k = rw (eq-eqb (refusalOf d sequence f refused l .number) 0 z)
 
   map-sets : length (mapOf d sequence f .sets) ≡ headerAt f (d .big) .sets
   unfolding mapWith
   map-sets = sets-length _ _ _ 0
 
   -- the set of a column that is kept is one of them
-  pub set-known : refusalOf d sequence f refused l ≡ 0 → (c : ℕ) → Kept (mapOf d sequence f) c → columnAt (mapOf d sequence f) c .set < headerAt f (d .big) .sets
+  pub set-known : refusalOf d sequence f refused l .number ≡ 0 → (c : ℕ) → Kept (mapOf d sequence f) c → columnAt (mapOf d sequence f) c .set < headerAt f (d .big) .sets
   set-known z c k = rw (← map-sets) (accepted (mapOf d sequence f) (map-fits d sequence f refused l z) .set-known c k)
 
   -- the map's set is the text's
@@ -51,12 +52,12 @@ module _ (d : Description) (sequence : ℕ) (f : List ℕ) (refused l : ℕ) whe
   set-same k h = sets-at _ _ noMapSet _ k h
 
   -- and its last rows cover the table's rows
-  pub set-covered : refusalOf d sequence f refused l ≡ 0 → (k : ℕ) → k < headerAt f (d .big) .sets
+  pub set-covered : refusalOf d sequence f refused l .number ≡ 0 → (k : ℕ) → k < headerAt f (d .big) .sets
       → T (covers (mapOf d sequence f .rows) (setAt (mapOf d sequence f) k .rowsPer) 0 (setAt (mapOf d sequence f) k .lasts))
   set-covered z k h = set-covers (mapOf d sequence f) (map-fits d sequence f refused l z) k (rw map-sets h)
 
   -- its lists lie in the text
-  pub set-inside : refusalOf d sequence f refused l ≡ 0 → (k : ℕ) → k < headerAt f (d .big) .sets
+  pub set-inside : refusalOf d sequence f refused l .number ≡ 0 → (k : ℕ) → k < headerAt f (d .big) .sets
       → SetInside (length (indexTextOf f (headerAt f (d .big)))) 4 (getD (indexAt (indexTextOf f (headerAt f (d .big))) (headerAt f (d .big) .sets) .sets) k noSet)
   set-inside z k h = index-inside _ true Four _ (header-bounds f true (d .big) .sets-most) (index-passed z) k h
 

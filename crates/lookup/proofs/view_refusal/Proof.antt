@@ -7,7 +7,7 @@ use Rattle.lookup.proofs.view_refusal.Statement.{statement}
 use Rattle.lookup.proofs.view_refusal.Tie as tie
 
 returns : tie.Need-returns
-returns c = (ap (λ (a : Answer). a .refused) (c .before .before .ask .ensures .0), c .before .before .ask .ensures .1)
+returns c = (ap (λ (a : Answer). a .refused) (c .before .before .before .ask .ensures .0), c .before .before .before .ask .ensures .1)
 
 pub view-refusal-spec : {M : Type 1} → statement M
 view-refusal-spec = tie.close (tie.spec free (λ c. search needs) returns)

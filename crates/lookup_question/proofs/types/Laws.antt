@@ -8,26 +8,26 @@ use Rattle.lookup_rules.specs.declared.Answer.{Answer}
 use Rattle.lookup_rules.specs.Answers.{verdictOf, plannedOf, placedOf}
 
 module _ (a : Answer) where
-  pub checked : a .refused ≡ 0 → Accepted ≡ verdictOf a
+  pub checked : a .refused .number ≡ 0 → Accepted ≡ verdictOf a
   unfolding verdictOf
-  checked z = rw (eq-eqb (a .refused) 0 z)
+  checked z = rw (eq-eqb (a .refused .number) 0 z)
 
-  pub not-checked : (a .refused ≡ 0 → ⊥) → NotAccepted (a .refused) ≡ verdictOf a
+  pub not-checked : (a .refused .number ≡ 0 → ⊥) → NotAccepted (a .refused) ≡ verdictOf a
   unfolding verdictOf
-  not-checked n = rw (ne-eqb (a .refused) 0 n)
+  not-checked n = rw (ne-eqb (a .refused .number) 0 n)
 
-  pub planned-ready : a .refused ≡ 0 → Ready (a .plan) ≡ plannedOf a
+  pub planned-ready : a .refused .number ≡ 0 → Ready (a .plan) ≡ plannedOf a
   unfolding plannedOf
-  planned-ready z = rw (eq-eqb (a .refused) 0 z)
+  planned-ready z = rw (eq-eqb (a .refused .number) 0 z)
 
-  pub not-planned : (a .refused ≡ 0 → ⊥) → NotPlanned (a .refused) ≡ plannedOf a
+  pub not-planned : (a .refused .number ≡ 0 → ⊥) → NotPlanned (a .refused) ≡ plannedOf a
   unfolding plannedOf
-  not-planned n = rw (ne-eqb (a .refused) 0 n)
+  not-planned n = rw (ne-eqb (a .refused .number) 0 n)
 
-  pub placed-at : a .refused ≡ 0 → At (a .first) (a .count) (a .looks) (a .entries) ≡ placedOf a
+  pub placed-at : a .refused .number ≡ 0 → At (a .first) (a .count) (a .looks) (a .entries) ≡ placedOf a
   unfolding placedOf
-  placed-at z = rw (eq-eqb (a .refused) 0 z)
+  placed-at z = rw (eq-eqb (a .refused .number) 0 z)
 
-  pub not-placed : (a .refused ≡ 0 → ⊥) → NotPlaced (a .refused) ≡ placedOf a
+  pub not-placed : (a .refused .number ≡ 0 → ⊥) → NotPlaced (a .refused) ≡ placedOf a
   unfolding placedOf
-  not-placed n = rw (ne-eqb (a .refused) 0 n)
+  not-placed n = rw (ne-eqb (a .refused .number) 0 n)

@@ -20,11 +20,11 @@ abbrev μ-loop : tie.MeasureT-loop
 returns : tie.Need-returns Inv-loop μ-loop
 unfolding noColumn noBinding
 returns c =
-    let e = c .before .before .before .before .before .before .before .before .before .before .before .describe .ensures .0 in
-    let g = target-found _ _ e (c .before .before .before .before .before .before .before .before .before .before .place-of .ensures .1) (c .before .before .before .before .before .before .before .column-if .ensures) (c .before .before .before .before .before .before .binding-if .ensures) (c .before .before .before .before .find-target .ensures) in (
+    let e = c .before .before .before .before .before .before .before .before .before .before .before .before .before .describe .ensures .0 in
+    let g = target-found _ _ e (c .before .before .before .before .before .before .before .before .before .before .before .before .place-of .ensures .1) (c .before .before .before .before .before .before .before .before .before .column-if .ensures) (c .before .before .before .before .before .before .before .before .binding-if .ensures) (c .before .before .before .before .before .find-target .ensures) in (
       (
-        stages-there _ _ _ _ e g (c .before .before .before .if1 .taken) (c .before .before .check .ensures) (c .before .no-set .ensures) (c .finish .ensures .0),
-        λ z k. no-text (c .before .before .before .if1 .taken) (same-kind _ _ _ _ (c .finish .ensures .0)) k,
+        stages-there _ _ _ _ e g (c .before .before .before .before .if1 .taken) (c .before .before .before .check .ensures) (c .before .before .no-set .ensures) (c .finish .ensures .0),
+        λ z k. no-text (c .before .before .before .before .if1 .taken) (same-kind _ _ _ _ (c .finish .ensures .0)) k,
       ),
       c .finish .ensures .1,
     )
@@ -41,12 +41,12 @@ check-requires-2 c κs =
 returns-2 : tie.Need-returns-2 Inv-loop μ-loop
 unfolding noColumn noBinding
 returns-2 c =
-    let e = c .before .before .before .before .before .before .before .before .before .before .before .before .before .before .before .before .before .before .before .before .before .before .describe .ensures .0 in
-    let g = target-found _ _ e (c .before .before .before .before .before .before .before .before .before .before .before .before .before .before .before .before .before .before .before .before .before .place-of .ensures .1) (c .before .before .before .before .before .before .before .before .before .before .before .before .before .before .before .before .before .before .column-if .ensures) (c .before .before .before .before .before .before .before .before .before .before .before .before .before .before .before .before .before .binding-if .ensures) (c .before .before .before .before .before .before .before .before .before .before .before .before .before .before .before .find-target .ensures) in
-    let cs = gathered _ _ _ (c .before .before .before .before .before .before .before .before .before .before .before .before .before .loop .inv) (c .before .before .before .before .before .before .before .before .before .before .before .before .loop-test .left) in (
+    let e = c .before .before .before .before .before .before .before .before .before .before .before .before .before .before .before .before .before .before .before .before .before .before .before .before .describe .ensures .0 in
+    let g = target-found _ _ e (c .before .before .before .before .before .before .before .before .before .before .before .before .before .before .before .before .before .before .before .before .before .before .before .place-of .ensures .1) (c .before .before .before .before .before .before .before .before .before .before .before .before .before .before .before .before .before .before .before .before .column-if .ensures) (c .before .before .before .before .before .before .before .before .before .before .before .before .before .before .before .before .before .before .before .binding-if .ensures) (c .before .before .before .before .before .before .before .before .before .before .before .before .before .before .before .before .find-target .ensures) in
+    let cs = gathered _ _ _ (c .before .before .before .before .before .before .before .before .before .before .before .before .before .before .loop .inv) (c .before .before .before .before .before .before .before .before .before .before .before .before .before .loop-test .left) in (
       (
-        stages-here _ _ _ _ e g (c .before .before .before .before .before .before .before .before .before .before .before .before .before .before .if1 .left) cs (c .before .before .before .before .check2 .ensures .0) (c .finish2 .ensures .0),
-        λ z k. room-text _ _ _ e (c .before .before .before .before .check2 .ensures .1 (passed _ _ _ _ (c .finish2 .ensures .0) z)),
+        stages-here _ _ _ _ e g (c .before .before .before .before .before .before .before .before .before .before .before .before .before .before .before .if1 .left) cs (c .before .before .before .before .before .check2 .ensures .0) (c .finish2 .ensures .0),
+        λ z k. room-text _ _ _ e (c .before .before .before .before .before .check2 .ensures .1 (passed _ _ _ _ (c .finish2 .ensures .0) z)),
       ),
       c .finish2 .ensures .1,
     )
@@ -70,7 +70,7 @@ stages-spec =
     free
     free
     returns
-    (λ c. gathering-start _ _ _ _ (c .before .before .before .before .before .before .before .before .describe .ensures .1 .0))
+    (λ c. gathering-start _ _ _ _ (c .before .before .before .before .before .before .before .before .before .describe .ensures .1 .0))
     (λ c. omega (arith, c .before .loop .inv .few))
     (λ c. omega (arith, c .before .loop .inv .few))
     (λ c. omega (arith, c .before .before .loop .inv .few))

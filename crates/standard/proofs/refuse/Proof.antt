@@ -1,4 +1,4 @@
--- `standard::refuse` meets its contract: the number and zeros.
+-- `standard::refuse` meets its contract: the refusal and zeros.
 use Rattle.bytes_at.proofs.Stepped.{free}
 use Rattle.standard.specs.Check.{refusedFile}
 use Rattle.standard.proofs.refuse.Statement.{statement}

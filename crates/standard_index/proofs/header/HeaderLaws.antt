@@ -1,6 +1,6 @@
 -- The numbers of a header that have no range are uInts.
 -- Assumes nothing.
-use mathlib.Core.Path.{_≡_}
+use mathlib.Core.Path.{_≡_, refl}
 use mathlib.Core.List.{List}
 use mathlib.Core.Bool.{Bool}
 use Prim.Native.Nat.{_<_, ℕ}
@@ -21,7 +21,7 @@ module _ (c : Cursor) (b : BucketFields) (i : IndexFields) where
   headed-words x y =
       elim (ℕ-discrete (c .refused) 0) [
         | yes h ↦ rw (← (headed-on c b i h)) (record { free-count = x .0; first-free = x .1; index-count = y .0; first-index = y .1; offset = y .2 })
-        | no h ↦ rw (← (headed-off c b i h)) (record { free-count = omega arith; first-free = omega arith; index-count = omega arith; first-index = omega arith; offset = omega arith })
+        | no h ↦ rw (← (headed-off c b i h refl)) (record { free-count = omega arith; first-free = omega arith; index-count = omega arith; first-index = omega arith; offset = omega arith })
       ]
 
 pub header-answered : (s : List ℕ) (order : Bool) (big : Bool) {h : Header} → h ≡ headerIn s order big → HeaderWords h

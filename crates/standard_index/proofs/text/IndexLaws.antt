@@ -103,7 +103,7 @@ module _ (s : List ℕ) (c : Cursor) (width : Width) where
       }
 
 -- an answer with no refusal has the sets that were read
-indexed-clean : (c : Cursor) (all : Sets) → indexed c all .refused ≡ 0 → (Clean c) × (indexed c all .sets ≡ all .sets)
+indexed-clean : (c : Cursor) (all : Sets) → indexed c all .refused .number ≡ 0 → (Clean c) × (indexed c all .sets ≡ all .sets)
 unfolding indexed
 indexed-clean c all e = go (eqb (c .refused) 0) refl
   where
@@ -113,7 +113,7 @@ indexed-clean c all e = go (eqb (c .refused) 0) refl
 
 module _ (s : List ℕ) (order : Bool) (width : Width) (n : ℕ) (h : n ≤ 16) where
   -- The lists of each set of an index text that is not refused lie in the text.
-  pub index-inside : indexIn s order width n .refused ≡ 0 → (k : ℕ) → k < n → SetInside (length s) (bytesOf width) (getD (indexIn s order width n .sets) k noSet)
+  pub index-inside : indexIn s order width n .refused .number ≡ 0 → (k : ℕ) → k < n → SetInside (length s) (bytesOf width) (getD (indexIn s order width n .sets) k noSet)
   unfolding indexIn setsAt _>>=_
   index-inside e k l =
       let start : Cursor = record { at = 0; end = length s; big = order; refused = 0 } in
@@ -122,5 +122,5 @@ module _ (s : List ℕ) (order : Bool) (width : Width) (n : ℕ) (h : n ≤ 16) 
       rw (w .1) (turns-inside s start width n h (clean-before (judged-keeps (all .next) _ _ 7) (w .0)) .each-inside k l)
 
   pub index-answered : {ix : Index} → ix ≡ indexIn s order width n
-      → (ix ≡ indexIn s order width n) × (ix .refused ≡ 0 → (k : ℕ) → k < n → SetInside (length s) (bytesOf width) (getD (ix .sets) k noSet))
+      → (ix ≡ indexIn s order width n) × (ix .refused .number ≡ 0 → (k : ℕ) → k < n → SetInside (length s) (bytesOf width) (getD (ix .sets) k noSet))
   index-answered {ix} q = (q, λ e k l. rw q (index-inside (rw q at e) k l))

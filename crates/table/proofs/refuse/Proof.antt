@@ -1,4 +1,4 @@
--- `table::refuse` meets its contract: the number and zeros.
+-- `table::refuse` meets its contract: the refusal and zeros.
 use Rattle.bytes_at.proofs.Stepped.{free}
 use Rattle.table_rules.specs.Table.{refusedTable}
 use Rattle.table.proofs.refuse.Statement.{statement}

@@ -4,6 +4,7 @@ use mathlib.Core.Path.{_≡_, refl}
 use native.Mathlib.Omega.{arith}
 use borrow.Author.Needs.{needs}
 use lib.Dec.{leb}
+use Rattle.bytes_at.specs.Stages.{noRefusal}
 use Rattle.bytes_at.specs.Steps.{after}
 use Rattle.bytes_at.proofs.Loops.{after-none, after-more, after-all}
 use Rattle.bytes_at.proofs.Stepped.{free}
@@ -17,7 +18,7 @@ use Rattle.incremental.proofs.cells.find_cell.Tie as tie
 abbrev Inv-loop : tie.InvT-loop
 Inv-loop f big size x cells row bytes n start₀ offset₀ i₀ start offset i =
     (i ≤ n)
-    × (_≡_ {A = Found} (record { start = start; offset = offset; refused = 0 }) (after (bucketInto big f size x cells row) nothing i))
+    × (_≡_ {A = Found} (record { start = start; offset = offset; refused = noRefusal }) (after (bucketInto big f size x cells row) nothing i))
     × (start ≤ 4503599627371008)
     × (offset ≤ 1048576)
 
@@ -27,8 +28,8 @@ abbrev μ-loop : tie.MeasureT-loop
 returns : tie.Need-returns Inv-loop μ-loop
 unfolding searchOf
 returns c = (
-  bucket-stop _ _ _ _ _ _ _ _ _ (c .before .before .before .before .before .before .before .before .before .word .ensures .0) (c .before .before .before .before .before .before .before .word2 .ensures .0) (c .before .before .before .before .before .word3 .ensures .0) refl (c .before .before .before .before .minus .ensures) (c .before .before .before .minus2 .ensures) (c .before .read-bucket .ensures .0)
-      _ (c .before .before .before .before .before .before .before .before .before .before .before .before .loop .inv .1) (omega arith) (c .if1 .taken),
+  bucket-stop _ _ _ _ _ _ _ _ _ (c .before .before .before .before .before .before .before .before .before .before .word .ensures .0) (c .before .before .before .before .before .before .before .before .word2 .ensures .0) (c .before .before .before .before .before .before .word3 .ensures .0) refl (c .before .before .before .before .before .minus .ensures) (c .before .before .before .before .minus2 .ensures) (c .before .before .read-bucket .ensures .0)
+      _ (c .before .before .before .before .before .before .before .before .before .before .before .before .before .loop .inv .1) (omega arith) (c .before .if1 .taken) (c .refusal .ensures),
   (omega arith, omega arith),
 )
 
@@ -79,6 +80,7 @@ find-cell-spec =
     free
     free
     read-bucket-requires
+    free
     returns
     free
     free

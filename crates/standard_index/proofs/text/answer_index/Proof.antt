@@ -7,11 +7,11 @@ use Rattle.standard_index.proofs.text.answer_index.Tie as tie
 
 returns : tie.Need-returns
 unfolding indexed
-returns c = simp (ne-eqb _ _ (c .before .if1 .taken), ← (c .no-set .ensures))
+returns c = simp (ne-eqb _ _ (c .before .before .if1 .taken), ← (c .before .no-set .ensures), c .refusal .ensures)
 
 returns-2 : tie.Need-returns-2
 unfolding indexed
 returns-2 c = rw (eq-eqb _ _ (c .before .if1 .left))
 
 pub answer-index-spec : {M : Type 1} → statement M
-answer-index-spec = tie.close (tie.spec free returns returns-2)
+answer-index-spec = tie.close (tie.spec free free returns returns-2)

@@ -12,18 +12,18 @@ use Rattle.table.proofs.names.column_by_name.Statement.{statement}
 use Rattle.table.proofs.names.column_by_name.Tie as tie
 
 abbrev Inv-loop : tie.InvT-loop
-Inv-loop s name d refused n i₀ i = Searched (λ (k : ℕ). isNamed s name (getD (d .columns) k noColumn)) n i
+Inv-loop s name d n i₀ i = Searched (λ (k : ℕ). isNamed s name (getD (d .columns) k noColumn)) n i
 
 abbrev μ-loop : tie.MeasureT-loop
-μ-loop s name d refused n i₀ i = n - i
+μ-loop s name d n i₀ i = n - i
 
 returns : tie.Need-returns Inv-loop μ-loop
-returns c = not-described _ _ _ (c .before .describe .ensures .0) (c .if1 .taken)
+returns c = not-described _ _ _ (c .before .before .before .describe .ensures .0) (c .if1 .taken)
 
 returns-2 : tie.Need-returns-2 Inv-loop μ-loop
 unfolding firstNamed isNamed noColumn
 returns-2 c =
-    found-at _ _ _ (c .before .before .before .before .before .before .describe .ensures .0) (c .before .before .before .before .before .if1 .left) _
+    found-at _ _ _ (c .before .before .before .before .before .before .before .before .describe .ensures .0) (c .before .before .before .before .before .if1 .left) _
     (searched-here (c .before .before .before .before .loop .inv) (omega arith) (sym (c .before .is-at .ensures) ∙ c .if2 .taken))
     (omega arith)
 
@@ -34,7 +34,7 @@ loop-again c = searched-on (c .before .before .before .before .loop .inv) (omega
 returns-3 : tie.Need-returns-3 Inv-loop μ-loop
 unfolding firstNamed
 returns-3 c =
-    not-found _ _ _ (c .before .before .before .describe .ensures .0) (c .before .before .if1 .left) _
+    not-found _ _ _ (c .before .before .before .before .before .describe .ensures .0) (c .before .before .if1 .left) _
     (searched-out (c .before .loop .inv) (omega arith))
     (omega arith)
 

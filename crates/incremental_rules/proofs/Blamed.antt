@@ -1,0 +1,68 @@
+-- "Others carry 0": of what refuses a file.
+-- Assumes nothing.
+use mathlib.Core.Path.{refl}
+use mathlib.Core.List.{List}
+use mathlib.Core.Bool.{Bool}
+use Prim.Native.Nat.{ℕ, zero, suc}
+use native.Mathlib.Decide.{ℕ-discrete}
+use borrow.Author.Tests.{eq-eqb, ne-eqb}
+use Rattle.bytes_at.specs.declared.Refusal.{Refusal}
+use Rattle.bytes_at.specs.Stages.{OthersCarry0}
+use Rattle.bytes_at.specs.Steps.{after, _>>=_}
+use Rattle.bytes_at.proofs.Stages.{others-none, others-then, others-or, others-blaming}
+use Rattle.aipsio_rules.specs.declared.Cursor.{Cursor}
+use Rattle.table_rules.specs.declared.Description.{Description}
+use Rattle.incremental_rules.specs.declared.HeaderFields.{HeaderFields}
+use Rattle.incremental_rules.specs.declared.Index.{Index}
+use Rattle.incremental_rules.specs.declared.Cells.{Cells}
+use Rattle.incremental_rules.specs.Header.{headed, headerIn}
+use Rattle.incremental_rules.specs.Index.{indexed, indexIn}
+use Rattle.incremental_rules.specs.Check.{bucketInto, nothing, searchOf, refusalOf}
+use Rattle.incremental_rules.proofs.AnyCell.{turn-refused}
+
+headed-others : (c : Cursor) (h : HeaderFields) → OthersCarry0 (headed c h .refused)
+unfolding headed
+headed-others c h =
+    elim (ℕ-discrete (c .refused) 0) [
+      | yes e ↦ rw (eq-eqb (c .refused) 0 e) others-none
+      | no n ↦ rw (ne-eqb (c .refused) 0 n) (others-blaming (c .refused) (c .at))
+    ]
+
+header-others : (s : List ℕ) (order big : Bool) → OthersCarry0 (headerIn s order big .refused)
+unfolding headerIn _>>=_
+header-others s order big = headed-others _ _
+
+indexed-others : (c : Cursor) (count firsts buckets : ℕ) → OthersCarry0 (indexed c count firsts buckets .refused)
+unfolding indexed
+indexed-others c count firsts buckets =
+    elim (ℕ-discrete (c .refused) 0) [
+      | yes e ↦ rw (eq-eqb (c .refused) 0 e) others-none
+      | no n ↦ rw (ne-eqb (c .refused) 0 n) (others-blaming (c .refused) (c .at))
+    ]
+
+index-others : (s : List ℕ) (order : Bool) (each at : ℕ) → OthersCarry0 (indexIn s order each at .refused)
+unfolding indexIn _>>=_
+index-others s order each at = indexed-others _ _ _ _
+
+module _ (big : Bool) (f : List ℕ) (size : ℕ) (x : Index) (cells : Cells) (row : ℕ) where
+  turns-others : (n : ℕ) → OthersCarry0 (after (bucketInto big f size x cells row) nothing n .refused)
+  unfolding after
+  turns-others zero = others-none
+  turns-others (suc n) =
+      rw (turn-refused big f size x cells row (after (bucketInto big f size x cells row) nothing n) n)
+      (others-then _ _ (turns-others n) (others-blaming _ _))
+
+  search-others : OthersCarry0 (searchOf big f size x cells row .refused)
+  unfolding searchOf
+  search-others = turns-others (x .count)
+
+pub refusal-others : (d : Description) (sequence : ℕ) (f : List ℕ) (refused : Refusal) → OthersCarry0 refused → OthersCarry0 (refusalOf d sequence f refused)
+unfolding refusalOf
+refusal-others d sequence f refused h =
+    others-then _ _ h
+    (others-then _ _ (header-others _ _ _)
+    (others-then _ _ (others-or _ 1 _)
+    (others-then _ _ (index-others _ _ _ _)
+    (others-then _ _ (others-or _ 10 _)
+    (others-then _ _ (others-or _ 11 _)
+    (search-others _ _ _ _ _ _))))))
