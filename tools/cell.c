@@ -12,9 +12,6 @@
 #include <stdlib.h>
 #include <string.h>
 
-/* Where the data of a manager's file begins: behind the header. */
-enum { BUCKETS_START = 512 };
-
 struct question {
     const char *directory;
     struct bytes column;
@@ -44,6 +41,7 @@ struct search {
     uint64_t position;
     struct answer *answer;
     uint64_t number;
+    struct dump dump; /* where that blames a byte */
     bool is_beyond; /* the place lies not in the file, so the bytes changed from one question to the next */
 };
 
@@ -69,10 +67,9 @@ static void copy_cell(struct search *search, uint64_t start, uint64_t len)
     memcpy(search->answer->cell, search->file.at + start, len);
 }
 
-/* Plan, place and view, each after a check of the file. The first that is refused decides. */
-static void search_file(void *what)
+/* Plan, place and view, each after a check of the file. The first that is refused decides; gives the byte that it blames. */
+static uint64_t ask_cell(struct search *search)
 {
-    struct search *search = what;
     struct answer *answer = search->answer;
     struct bytes table = search->table, file = search->file;
     uint64_t view[HV_VIEW_LEN];
@@ -80,11 +77,11 @@ static void search_file(void *what)
     search->number = hv_plan(table.at, table.len, file.at, file.len, search->position, room, sizeof room, answer->plan,
                              HV_PLAN_LEN);
     if (search->number != HV_ACCEPTED)
-        return;
+        return answer->plan[HV_PLAN_BYTE];
     search->number = hv_place(table.at, table.len, file.at, file.len, search->row, search->position, room, sizeof room,
                               answer->place, HV_PLACE_LEN);
     if (search->number != HV_ACCEPTED)
-        return;
+        return answer->place[HV_PLACE_BYTE];
     search->number = hv_view(table.at, table.len, file.at, file.len, search->row, search->position, room, sizeof room, view,
                              HV_VIEW_LEN);
     if (search->number == HV_REFUSED_BOOL) {
@@ -94,12 +91,21 @@ static void search_file(void *what)
     } else if (search->number == HV_ACCEPTED) {
         copy_cell(search, view[HV_VIEW_START], view[HV_VIEW_LENGTH]);
     }
+    return view[HV_VIEW_BYTE];
 }
 
-static void decide(struct answer *answer, uint64_t number, const char *file)
+static void search_file(void *what)
 {
-    answer->verdict.outcome = number == HV_ACCEPTED ? OUTCOME_ACCEPTED : OUTCOME_REFUSED;
-    answer->verdict.number = number;
+    struct search *search = what;
+    uint64_t byte = ask_cell(search);
+
+    if (blames_byte(search->number))
+        search->dump = dump_of_file(search->table, search->file, search->answer->column[HV_COLUMN_SEQUENCE], byte);
+}
+
+static void decide(struct answer *answer, struct verdict verdict, const char *file)
+{
+    answer->verdict = verdict;
     free(answer->file);
     answer->file = text("%s", file);
 }
@@ -107,9 +113,7 @@ static void decide(struct answer *answer, uint64_t number, const char *file)
 /* Takes over the reason. */
 static void fail(struct answer *answer, char *why, const char *file)
 {
-    decide(answer, HV_ACCEPTED, file);
-    answer->verdict.outcome = OUTCOME_NOT_READ;
-    answer->verdict.why = why;
+    decide(answer, verdict_not_read(why), file);
     answer->has_table = false;
     answer->has_column = false;
 }
@@ -118,7 +122,8 @@ static void ask_file(struct answer *answer, const struct question *question, con
 {
     struct file file;
     char *why = file_open_manager(&file, question->directory, answer->column[HV_COLUMN_SEQUENCE]);
-    struct search search = {table->bytes, file.bytes, question->row, position, answer, 0, false};
+    struct search search = {
+        .table = table->bytes, .file = file.bytes, .row = question->row, .position = position, .answer = answer};
 
     if (why == NULL)
         why = file_use(&file, search_file, &search);
@@ -129,7 +134,8 @@ static void ask_file(struct answer *answer, const struct question *question, con
     if (why != NULL)
         fail(answer, why, file.shown);
     else
-        decide(answer, search.number, search.number == HV_REFUSED_ROW ? table->shown : file.shown);
+        decide(answer, verdict_of(search.number, &search.dump),
+               search.number == HV_REFUSED_ROW ? table->shown : file.shown);
     file_close(&file);
 }
 
@@ -138,23 +144,24 @@ static void ask_table(struct answer *answer, const struct question *question, co
     uint64_t description[HV_DESCRIPTION_LEN], position[HV_POSITION_LEN], plan[HV_PLAN_LEN];
     struct bytes bytes = table->bytes, column = question->column;
     uint64_t number = hv_description(bytes.at, bytes.len, description, HV_DESCRIPTION_LEN);
+    struct dump dump = dump_of_table(bytes, description[HV_DESCRIPTION_BYTE]);
 
     answer->has_table = number == HV_ACCEPTED;
     answer->rows = description[HV_DESCRIPTION_ROWS];
     if (number == HV_ACCEPTED)
         number = hv_column_by_name(bytes.at, bytes.len, column.at, column.len, position, HV_POSITION_LEN);
     if (number == HV_ACCEPTED) {
-        number = hv_column(bytes.at, bytes.len, *position, answer->column, HV_COLUMN_LEN);
+        number = hv_column(bytes.at, bytes.len, position[HV_POSITION], answer->column, HV_COLUMN_LEN);
         answer->has_column = number == HV_ACCEPTED;
     }
     /* A column without places is refused before the file is looked at, so it needs none. */
-    if (number == HV_ACCEPTED && hv_plan(bytes.at, bytes.len, nothing.at, nothing.len, *position, room, sizeof room, plan,
-                                         HV_PLAN_LEN) == HV_REFUSED_MISSING)
+    if (number == HV_ACCEPTED && hv_plan(bytes.at, bytes.len, nothing.at, nothing.len, position[HV_POSITION], room, sizeof room,
+                                         plan, HV_PLAN_LEN) == HV_REFUSED_MISSING)
         number = HV_REFUSED_MISSING;
     if (number == HV_ACCEPTED)
-        ask_file(answer, question, table, *position);
+        ask_file(answer, question, table, position[HV_POSITION]);
     else
-        decide(answer, number, table->shown);
+        decide(answer, verdict_of(number, &dump), table->shown);
 }
 
 static void ask(struct answer *answer, const struct question *question)
@@ -186,6 +193,7 @@ static void print_refusal(const struct answer *answer, const struct question *qu
     else if (number == HV_REFUSED_ROW)
         printf(" (row %" PRIu64 ", row count %" PRIu64 ")", question->row, answer->rows);
     printf("\n");
+    print_blamed(&answer->verdict, answer->file);
     free(column);
 }
 
@@ -261,26 +269,23 @@ static void print_cell(const struct answer *answer, const struct question *quest
     free(column);
 }
 
-static void json_known(const char *name, bool is_known, uint64_t number)
+/* A digit for each bit of the cell, to be freed. */
+static char *bit_digits(const struct answer *answer)
 {
-    if (is_known)
-        json_number(name, number);
-    else
-        json_null(name);
-}
-
-/* The cell as a text: hex digits, or a digit for each bit. */
-static char *cell_text(const struct answer *answer)
-{
-    uint64_t count = answer->is_bits ? answer->place[HV_PLACE_BIT_COUNT] : answer->cell_len;
-    char *made = memory(count, 2);
-    char *end = made;
+    uint64_t count = answer->place[HV_PLACE_BIT_COUNT];
+    char *digits = memory(count, 1);
     uint64_t i;
 
-    *end = '\0';
     for (i = 0; i < count; i++)
-        end += answer->is_bits ? sprintf(end, "%d", bit_of(answer, i)) : sprintf(end, "%02x", answer->cell[i]);
-    return made;
+        digits[i] = (char)('0' + bit_of(answer, i));
+    digits[count] = '\0';
+    return digits;
+}
+
+/* The cell as a text, to be freed. */
+static char *cell_text(const struct answer *answer)
+{
+    return answer->is_bits ? bit_digits(answer) : hex_digits((struct bytes){answer->cell, answer->cell_len});
 }
 
 static void json_place(const struct answer *answer)

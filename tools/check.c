@@ -55,9 +55,10 @@ static void print_file(const char *path, const struct verdict *verdict)
     printf("%s: ", path);
     print_verdict(verdict);
     printf("\n");
+    print_blamed(verdict, path);
 }
 
-/* A line for each file. */
+/* A line for each file, and the byte of a refusal. */
 static void print_files(const struct table *table)
 {
     struct counts counts = count(table);
@@ -70,7 +71,7 @@ static void print_files(const struct table *table)
         printf("%s: no data file was checked\n", table->directory);
 }
 
-/* A line for the table. It says accepted of the table only where a file of its data was checked. */
+/* A line for the table, which says accepted only where a file of its data was checked; and the byte of its refusal. */
 static void print_line(const struct table *table)
 {
     struct counts counts = count(table);
@@ -88,6 +89,8 @@ static void print_line(const struct table *table)
         printf("accepted, %" PRIu64 " data file%s checked, %" PRIu64 " not checked", counts.checked,
                counts.checked == 1 ? "" : "s", counts.not_checked);
     printf("\n");
+    if (counts.refused != NULL)
+        print_blamed(counts.refusal, counts.refused);
 }
 
 struct summary {

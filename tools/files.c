@@ -1,5 +1,6 @@
 #include "files.h"
 
+#include "dump.h"
 #include "messages.h"
 
 #include <errno.h>
@@ -12,8 +13,8 @@
 #include <sys/mman.h>
 #include <unistd.h>
 
-/* A table.dat of more than 65,536 bytes is refused for its length, so no more of it is needed. */
-enum { TABLE_READ_MOST = 65537 };
+/* A table.dat of more than 65,536 bytes is refused for its length, at byte 65,536: no more is needed than the dump shows. */
+enum { TABLE_READ_MOST = 65536 + 2 * DUMP_LINE };
 
 /* DIRECTORY/FILE, without a second slash after one that the directory ends in. */
 static char *path_of(const char *directory, const char *file)

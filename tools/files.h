@@ -10,6 +10,9 @@
 
 #include <sys/stat.h>
 
+/* Where the buckets of a data manager's file begin: behind its header. */
+enum { BUCKETS_START = 512 };
+
 struct file {
     char *path;
     char *shown; /* the path, escaped */

@@ -29,6 +29,12 @@ static const char usage[] = "usage: hv COMMAND [--json] [ARGUMENT]...\n"
                             "       hv help [COMMAND]\n"
                             "       hv --version\n";
 
+/* Of the commands that read a table. */
+static const char bytes_shown[] =
+    "A refusal of 1 to 7 also tells the byte at which the failing field begins, counted from 0, and shows it in a\n"
+    "hex dump, between brackets: [--] where the file ends there. The index text of a StandardStMan file may lie in\n"
+    "several buckets, so its bytes are counted from the text's start, and the dump is of the text.\n";
+
 static const char statuses[] = "Exit status: 0 accepted; 1 refused; 2 could not be asked: a usage error, or a file that can\n"
                                "not be read or that changed while it was read.\n";
 
@@ -58,7 +64,8 @@ static int print_help(void)
 
 static int print_command_help(const struct command *command)
 {
-    printf("usage: hv %s %s\n%s%s%s", command->name, command->usage, command->help,
+    printf("usage: hv %s %s\n%s%s%s%s", command->name, command->usage, command->help,
+           command->directory ? bytes_shown : "",
            command->json ? "With --json it prints one JSON object in place of this text; docs/GUIDE.md has its fields.\n" : "",
            statuses);
     return STATUS_ACCEPTED;

@@ -3,7 +3,6 @@
 #include "helvidrane.h"
 
 #include <inttypes.h>
-#include <stdbool.h>
 #include <stdio.h>
 
 /* Whether nothing stands yet in the object or list that is open. */
@@ -73,6 +72,14 @@ void json_null(const char *name)
 {
     begin(name);
     fputs("null", stdout);
+}
+
+void json_known(const char *name, bool is_known, uint64_t number)
+{
+    if (is_known)
+        json_number(name, number);
+    else
+        json_null(name);
 }
 
 void json_text(const char *name, const char *given)

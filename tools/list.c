@@ -34,6 +34,7 @@ static void print_manager(const struct manager *manager)
     printf(": ");
     print_verdict(&manager->verdict);
     printf("\n");
+    print_blamed(&manager->verdict, manager->path);
 }
 
 static void print_table(const struct table *table)
@@ -42,6 +43,7 @@ static void print_table(const struct table *table)
 
     if (table->verdict.outcome == OUTCOME_REFUSED)
         printf("refused %" PRIu64 "\n%s: %s\n", table->verdict.number, table->path, verdict_reason(&table->verdict));
+    print_blamed(&table->verdict, table->path);
     if (table->verdict.outcome != OUTCOME_ACCEPTED)
         return;
     printf("rows %" PRIu64 " columns %" PRIu64 " %s endian\n", table->description[HV_DESCRIPTION_ROWS],
@@ -71,13 +73,8 @@ static void json_table(const struct table *table)
     json_text("directory", table->directory);
     json_text("file", table->path);
     json_verdict(&table->verdict);
-    if (table->verdict.outcome == OUTCOME_ACCEPTED) {
-        json_number("rows", table->description[HV_DESCRIPTION_ROWS]);
-        json_text("byte_order", byte_order(table));
-    } else {
-        json_null("rows");
-        json_null("byte_order");
-    }
+    json_known("rows", table->verdict.outcome == OUTCOME_ACCEPTED, table->description[HV_DESCRIPTION_ROWS]);
+    json_text("byte_order", table->verdict.outcome == OUTCOME_ACCEPTED ? byte_order(table) : NULL);
     json_list("columns");
     for (i = 0; i < table->column_count; i++)
         json_column(i, &table->columns[i]);

@@ -33,6 +33,18 @@ char *escaped_text(const char *given)
     return escaped(bytes);
 }
 
+char *hex_digits(struct bytes bytes)
+{
+    char *digits = memory(bytes.len, 2);
+    char *end = digits;
+    size_t i;
+
+    *end = '\0';
+    for (i = 0; i < bytes.len; i++)
+        end += sprintf(end, "%02x", bytes.at[i]);
+    return digits;
+}
+
 /* The value of a hex digit, or -1. */
 static int hex_digit(char digit)
 {

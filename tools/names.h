@@ -22,6 +22,9 @@ extern const struct bytes nothing;
 char *escaped(struct bytes bytes);
 char *escaped_text(const char *given);
 
+/* Two hex digits for each byte. To be freed. */
+char *hex_digits(struct bytes bytes);
+
 /* The bytes, to be freed, that a shown name stands for; false where a backslash does not begin \xNN. */
 bool unescaped(const char *shown, uint8_t **at, size_t *len);
 

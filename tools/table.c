@@ -55,14 +55,18 @@ void print_verdict(const struct verdict *verdict)
         printf(": %s", reason);
 }
 
+void print_blamed(const struct verdict *verdict, const char *path)
+{
+    if (blames_byte(verdict->number))
+        print_dump(&verdict->dump, path);
+}
+
 void json_verdict(const struct verdict *verdict)
 {
     json_text("verdict", verdict_word(verdict));
-    if (verdict->outcome == OUTCOME_REFUSED)
-        json_number("refusal", verdict->number);
-    else
-        json_null("refusal");
+    json_known("refusal", verdict->outcome == OUTCOME_REFUSED, verdict->number);
     json_text("reason", verdict_reason(verdict));
+    json_dump(&verdict->dump, blames_byte(verdict->number));
 }
 
 static void json_manager(const struct manager *manager)
@@ -72,10 +76,7 @@ static void json_manager(const struct manager *manager)
     json_text("name", manager->name);
     json_text("kind", kind_name(manager->kind));
     json_text("file", manager->path);
-    if (manager->verdict.outcome == OUTCOME_ACCEPTED)
-        json_number("bucket_size", manager->bucket_size);
-    else
-        json_null("bucket_size");
+    json_known("bucket_size", manager->verdict.outcome == OUTCOME_ACCEPTED, manager->bucket_size);
     json_verdict(&manager->verdict);
     json_object_end();
 }
@@ -88,16 +89,18 @@ void json_managers(const struct table *table)
         json_manager(&table->managers[i]);
 }
 
-static struct verdict of_number(uint64_t number)
+struct verdict verdict_of(uint64_t number, const struct dump *dump)
 {
-    struct verdict verdict = {number == HV_ACCEPTED ? OUTCOME_ACCEPTED : OUTCOME_REFUSED, number, NULL};
+    struct verdict verdict = {.outcome = number == HV_ACCEPTED ? OUTCOME_ACCEPTED : OUTCOME_REFUSED, .number = number};
 
+    if (blames_byte(number))
+        verdict.dump = *dump;
     return verdict;
 }
 
-static struct verdict not_read(char *why)
+struct verdict verdict_not_read(char *why)
 {
-    struct verdict verdict = {OUTCOME_NOT_READ, 0, why};
+    struct verdict verdict = {.outcome = OUTCOME_NOT_READ, .why = why};
 
     return verdict;
 }
@@ -109,6 +112,7 @@ struct check {
     uint64_t sequence;
     uint64_t number;
     uint64_t out[HV_CHECK_LEN];
+    struct dump dump;
 };
 
 static void check_file(void *what)
@@ -117,22 +121,24 @@ static void check_file(void *what)
 
     check->number = hv_check(check->table.at, check->table.len, check->file.at, check->file.len, check->sequence, room,
                              sizeof room, check->out, HV_CHECK_LEN);
+    if (blames_byte(check->number))
+        check->dump = dump_of_file(check->table, check->file, check->sequence, check->out[HV_CHECK_BYTE]);
 }
 
 static void ask_file(struct manager *manager, struct bytes table, const char *directory)
 {
     struct file file;
     char *why = file_open_manager(&file, directory, manager->sequence);
-    struct check check = {table, file.bytes, manager->sequence, 0, {0}};
+    struct check check = {.table = table, .file = file.bytes, .sequence = manager->sequence};
 
     if (why == NULL)
         why = file_use(&file, check_file, &check);
     if (why == NULL)
         why = file_changed(&file);
     if (why != NULL) {
-        manager->verdict = not_read(why);
+        manager->verdict = verdict_not_read(why);
     } else {
-        manager->verdict = of_number(check.number);
+        manager->verdict = verdict_of(check.number, &check.dump);
         manager->bucket_size = check.number == HV_ACCEPTED ? check.out[HV_CHECK_BUCKET_SIZE] : 0;
     }
     file_close(&file);
@@ -154,7 +160,7 @@ static uint64_t ask_manager(struct manager *manager, struct bytes table, uint64_
     if (manager->kind == HV_STANDARD || manager->kind == HV_INCREMENTAL)
         ask_file(manager, table, directory);
     else
-        manager->verdict = (struct verdict){OUTCOME_NOT_CHECKED, 0, NULL};
+        manager->verdict = (struct verdict){.outcome = OUTCOME_NOT_CHECKED};
     return number;
 }
 
@@ -210,6 +216,7 @@ static void free_parts(struct table *table)
 static void ask_bytes(struct table *table, const struct file *file, const char *directory, bool with_columns)
 {
     uint64_t number = hv_description(file->bytes.at, file->bytes.len, table->description, HV_DESCRIPTION_LEN);
+    struct dump dump = dump_of_table(file->bytes, table->description[HV_DESCRIPTION_BYTE]);
     char *why;
 
     if (number == HV_ACCEPTED)
@@ -217,7 +224,7 @@ static void ask_bytes(struct table *table, const struct file *file, const char *
     why = file_changed(file);
     if (why != NULL || number != HV_ACCEPTED)
         free_parts(table);
-    table->verdict = why != NULL ? not_read(why) : of_number(number);
+    table->verdict = why != NULL ? verdict_not_read(why) : verdict_of(number, &dump);
 }
 
 void table_ask(struct table *table, const char *directory, bool with_columns)
@@ -228,7 +235,7 @@ void table_ask(struct table *table, const char *directory, bool with_columns)
 
     *table = (struct table){.directory = escaped_text(directory), .path = escaped_text(file.path)};
     if (why != NULL)
-        table->verdict = not_read(why);
+        table->verdict = verdict_not_read(why);
     else
         ask_bytes(table, &file, directory, with_columns);
     file_close(&file);

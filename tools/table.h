@@ -2,15 +2,15 @@
 #ifndef TABLE_H
 #define TABLE_H
 
+#include "dump.h"
 #include "helvidrane.h"
-
-#include <stdbool.h>
 
 enum outcome { OUTCOME_ACCEPTED, OUTCOME_REFUSED, OUTCOME_NOT_CHECKED, OUTCOME_NOT_READ };
 
 struct verdict {
     enum outcome outcome;
     uint64_t number; /* of the refusal, else 0 */
+    struct dump dump; /* where the refusal blames a byte, else zeros */
     char *why; /* for OUTCOME_NOT_READ, else null */
 };
 
@@ -45,6 +45,13 @@ struct table {
 void table_ask(struct table *table, const char *directory, bool with_columns);
 void table_free(struct table *table);
 
+/*
+ * The verdict by the number that the library gave, with the dump where it blames a byte; and that on a file that was not read,
+ * which takes over the reason.
+ */
+struct verdict verdict_of(uint64_t number, const struct dump *dump);
+struct verdict verdict_not_read(char *why);
+
 /* The verdict in words: "accepted", "refused", "not checked", "not read"; and for the last three, why. */
 const char *verdict_word(const struct verdict *verdict);
 const char *verdict_reason(const struct verdict *verdict);
@@ -53,7 +60,10 @@ int verdict_status(const struct verdict *verdict);
 /* "accepted", "refused 10: ..", "not checked: .." or "not read: ..", on standard output. */
 void print_verdict(const struct verdict *verdict);
 
-/* The fields "verdict", "refusal" and "reason". */
+/* Of a file whose refusal blames a byte, the lines that show it; of another none. */
+void print_blamed(const struct verdict *verdict, const char *path);
+
+/* The fields "verdict", "refusal" and "reason", and those of the byte. */
 void json_verdict(const struct verdict *verdict);
 
 /* An object for each data manager: its fields, and those of the verdict on its file. */

@@ -1,7 +1,7 @@
 /*
- * Asks every question of include/helvidrane.h: of files on the samples `small` and `arrays`, accepted, refused with each number,
- * with `out` shorter and longer than the answer, with plans that are too short, and with null pointers to runs of 0 elements;
- * and of type numbers. The answers are those of RULES.md and of the independent model. It is C and C++.
+ * Asks every question of include/helvidrane.h: of files on the samples `small` and `arrays`, accepted, refused with each number
+ * and the byte, with `out` shorter and longer than the answer, with plans that are too short, and with null pointers to runs of
+ * 0 elements; and of type numbers. The answers are those of RULES.md and of the independent model. It is C and C++.
  *
  * questions SAMPLES: exits with 1 at the first difference.
  */
@@ -13,12 +13,15 @@
 
 #define HOLD(condition, line) hold(condition, #condition, __FILE__, line)
 #define ACCEPTED(question, values) accepted(question, values, sizeof values / sizeof *values, __LINE__)
-#define REFUSED(question, number) refused(question, number, __LINE__)
+#define REFUSED(question, number) refused(question, number, 0, __LINE__)
 
 enum question { DESCRIPTION, COLUMN, MANAGER, BY_NAME, CHECK, PLAN, PLACE, PLACE_PLANNED, VIEW, VIEW_PLANNED };
 
 static const size_t answer_lens[] = {HV_DESCRIPTION_LEN, HV_COLUMN_LEN, HV_MANAGER_LEN, HV_POSITION_LEN, HV_CHECK_LEN,
                                      HV_PLAN_LEN,        HV_PLACE_LEN,  HV_PLACE_LEN,   HV_VIEW_LEN,     HV_VIEW_LEN};
+/* The numbers of the bytes. */
+static const size_t bytes_at[] = {HV_DESCRIPTION_BYTE, HV_COLUMN_BYTE, HV_MANAGER_BYTE, HV_POSITION_BYTE, HV_CHECK_BYTE,
+                                  HV_PLAN_BYTE,        HV_PLACE_BYTE,  HV_PLACE_BYTE,   HV_VIEW_BYTE,     HV_VIEW_BYTE};
 
 enum { BYTES_MOST = 1 << 20, OUT_MOST = 16, ROOM_MOST = HV_ROOM_MOST + 16, PLAN_MOST = HV_PLAN_LEN + 2 };
 
@@ -33,7 +36,7 @@ static const char *name;
 static uint64_t number; /* a position, an index or a sequence number */
 static uint64_t row;
 static uint64_t plan[PLAN_MOST];
-static size_t plan_len = HV_PLAN_LEN;
+static size_t plan_len = HV_PLAN_NUMBERS;
 static size_t room_len;
 static struct bytes text; /* what the room holds after acceptance, before the zeros */
 
@@ -159,19 +162,28 @@ static void accepted(enum question question, const uint64_t *values, size_t coun
     }
 }
 
-static void refused(enum question question, enum hv_number refusal, int line)
+/* Zeros, but for the byte. */
+static void refused(enum question question, enum hv_number refusal, uint64_t byte, int line)
 {
-    size_t n = answer_lens[question];
+    size_t n = answer_lens[question], at = bytes_at[question];
     size_t out_len;
 
     for (out_len = 0; out_len <= n + 3; out_len++) {
         size_t written = lesser(n, out_len);
         HOLD(ask(question, out_len) == refusal, line);
-        HOLD(out_is(0, written, 0), line);
+        HOLD(out_is(0, lesser(at, written), 0), line);
+        HOLD(written <= at || out[at] == byte, line);
+        HOLD(out_is(at + 1, written, 0), line);
         untouched_from(question, written, line);
         if (question >= CHECK)
             HOLD(room_is(0, room_len, 0), line);
     }
+}
+
+static void blamed(enum question question, enum hv_number refusal, uint64_t byte, int line)
+{
+    HOLD(ask(question, answer_lens[question]) == refusal, line);
+    HOLD(out[bytes_at[question]] == byte, line);
 }
 
 /* Whether or not the question would be refused: nothing is written, the room included. */
@@ -179,28 +191,30 @@ static void short_plans(enum question question, int line)
 {
     size_t out_len;
 
-    for (plan_len = 0; plan_len < HV_PLAN_LEN; plan_len++)
+    for (plan_len = 0; plan_len < HV_PLAN_NUMBERS; plan_len++)
         for (out_len = 0; out_len <= HV_PLACE_LEN + 3; out_len++) {
             HOLD(ask(question, out_len) == HV_SHORT, line);
             HOLD(out_is(0, OUT_MOST, out_filling), line);
             HOLD(room_is(0, ROOM_MOST, room_filling), line);
         }
-    HOLD(plan_len == HV_PLAN_LEN, line);
+    HOLD(plan_len == HV_PLAN_NUMBERS, line);
 }
 
-/* Numbers behind those of a plan are not looked at. */
+/* Numbers behind those of a plan, the byte of hv_plan's answer too, are not looked at. */
 static void long_plans(enum question question, const uint64_t *values, int line)
 {
-    for (plan_len = HV_PLAN_LEN; plan_len <= PLAN_MOST; plan_len++)
+    for (plan_len = HV_PLAN_NUMBERS; plan_len <= PLAN_MOST; plan_len++)
         accepted(question, values, answer_lens[question], line);
-    plan_len = HV_PLAN_LEN;
+    plan_len = HV_PLAN_NUMBERS;
 }
 
 static void set_plan(const uint64_t *values)
 {
-    memcpy(plan, values, HV_PLAN_LEN * sizeof *plan);
-    plan[HV_PLAN_LEN] = 1;
-    plan[HV_PLAN_LEN + 1] = UINT64_MAX;
+    size_t i;
+
+    memcpy(plan, values, HV_PLAN_NUMBERS * sizeof *plan);
+    for (i = HV_PLAN_NUMBERS; i < PLAN_MOST; i++)
+        plan[i] = UINT64_MAX - i;
 }
 
 /* The small file (RULES.md 11.1): buckets of 64 bytes, the index text of 134 bytes in buckets 1, 3 and 4. */
@@ -217,8 +231,8 @@ static void load_small(const char *samples)
 
 static void ask_of_table(void)
 {
-    const uint64_t description[] = {7, 1, 3, 1};
-    const uint64_t manager[] = {0, HV_STANDARD, 829, 13};
+    const uint64_t description[] = {7, 1, 3, 1, 0};
+    const uint64_t manager[] = {0, HV_STANDARD, 829, 13, 0};
     const char *const names[] = {"SCAN", "FLAG", "TIME"};
     const uint64_t types[] = {HV_TYPE_INT, HV_TYPE_BOOL, HV_TYPE_DOUBLE};
     const uint64_t bits[] = {32, 1, 64};
@@ -228,6 +242,7 @@ static void ask_of_table(void)
     ACCEPTED(DESCRIPTION, description);
 
     for (k = 0; k < 3; k++) {
+        const uint64_t position[] = {k, 0};
         uint64_t column[HV_COLUMN_LEN] = {0};
         number = k;
         ask(COLUMN, HV_COLUMN_LEN);
@@ -240,7 +255,7 @@ static void ask_of_table(void)
         column[HV_COLUMN_OFFSET] = offsets[k];
         ACCEPTED(COLUMN, column);
         name = names[k];
-        accepted(BY_NAME, &k, 1, __LINE__);
+        ACCEPTED(BY_NAME, position);
     }
     number = 3;
     REFUSED(COLUMN, HV_REFUSED_MISSING);
@@ -260,7 +275,7 @@ static void ask_of_table(void)
 
 static void ask_of_cells(void)
 {
-    const uint64_t bucket_size[] = {64};
+    const uint64_t bucket_size[] = {64, 0};
     const uint64_t plans[3][HV_PLAN_LEN] = {{0, 0, HV_TYPE_INT, 1, 32, 0, 0, 4, 64},
                                             {1, 0, HV_TYPE_BOOL, 1, 1, 0, 16, 4, 64},
                                             {2, 0, HV_TYPE_DOUBLE, 1, 64, 0, 17, 4, 64}};
@@ -284,8 +299,8 @@ static void ask_of_cells(void)
 
     for (i = 0; i < 4; i++) {
         const uint64_t *place = cells[i] + 2;
-        const uint64_t whole[] = {place[0], place[1], 1, 2}; /* a look at the first of two last rows, for every row */
-        const uint64_t start_and_length[] = {place[0] / 8, place[1] / 8};
+        const uint64_t whole[] = {place[0], place[1], 1, 2, 0}; /* a look at the first of two last rows, for every row */
+        const uint64_t start_and_length[] = {place[0] / 8, place[1] / 8, 0};
         row = cells[i][0];
         number = cells[i][1];
         set_plan(plans[number]);
@@ -319,7 +334,7 @@ static void ask_of_cells(void)
 
     /* Each number of a plan counts; a position without a column is no stale plan. */
     row = 7;
-    for (i = 0; i < HV_PLAN_LEN; i++) {
+    for (i = 0; i < HV_PLAN_NUMBERS; i++) {
         enum hv_number refusal = i == HV_PLAN_POSITION ? HV_REFUSED_MISSING : HV_REFUSED_PLAN;
         set_plan(plans[2]);
         plan[i] += 1;
@@ -345,108 +360,185 @@ static void ask_of_cells(void)
     room_len = 134;
 }
 
-/* The questions from `first` on are refused, each with the same number. */
-static void refused_from(enum question first, enum hv_number refusal, int line)
+/* The next questions are about SCAN of row 0 in the small table. */
+static void set_scan(void)
 {
     const uint64_t scan[HV_PLAN_LEN] = {0, 0, HV_TYPE_INT, 1, 32, 0, 0, 4, 64};
-    int question;
 
     name = "SCAN";
     number = 0;
     row = 0;
     set_plan(scan);
+}
+
+/* The questions from `first` on are refused, each with the same number and byte. */
+static void refused_from(enum question first, enum hv_number refusal, uint64_t byte, int line)
+{
+    int question;
+
+    set_scan();
     for (question = first; question <= VIEW_PLANNED; question++)
-        refused((enum question)question, refusal, line);
+        refused((enum question)question, refusal, byte, line);
     short_plans(PLACE_PLANNED, line);
     short_plans(VIEW_PLANNED, line);
 }
 
+/* The same of number and byte alone. It is quick, so that many files can be asked about. */
+static void blamed_from(enum question first, enum hv_number refusal, uint64_t byte, int line)
+{
+    int question;
+
+    set_scan();
+    for (question = first; question <= VIEW_PLANNED; question++)
+        blamed((enum question)question, refusal, byte, line);
+}
+
+/* A byte of a file is another one; the file is refused at the byte where the failing field begins. */
 struct fault {
     size_t at;
     uint8_t byte;
     enum hv_number refusal;
+    uint64_t field;
 };
 
+/* Of the index text, byte 0 is byte 584 of the file, 56 is byte 712, and 112 is byte 776. */
 static void ask_of_faults(void)
 {
     static const struct fault in_table[] = {
-        {0, 0, HV_REFUSED_NAME},          /* the mark */
-        {0x14, 9, HV_REFUSED_VERSION},    /* Table's version */
-        {0x15, 0xff, HV_REFUSED_RANGE},   /* the row count */
-        {0x1c, 2, HV_REFUSED_VALUE},      /* the endianness */
-        {0x330, 8, HV_REFUSED_FACTS},     /* ColumnSet's row count */
-        {0x38d, 16, HV_REFUSED_LENGTH},   /* DMInfo's length */
-        {0x07, 0, HV_REFUSED_END},        /* Table's length */
+        {0, 0, HV_REFUSED_NAME, 0},           /* the mark */
+        {0x0f, 'f', HV_REFUSED_NAME, 8},      /* Table's name: a String begins with its length */
+        {0x14, 9, HV_REFUSED_VERSION, 0x11},  /* Table's version */
+        {0x15, 0xff, HV_REFUSED_RANGE, 0x15}, /* the row count */
+        {0x1c, 2, HV_REFUSED_VALUE, 0x19},    /* the endianness */
+        {0x2a, 'E', HV_REFUSED_NAME, 0x1d},   /* the table type */
+        {0x0e2, 0, HV_REFUSED_RANGE, 0x0df},  /* the first column's name, empty */
+        {0x330, 8, HV_REFUSED_FACTS, 0x32d},  /* ColumnSet's row count, which is read after Table's */
+        {0x38d, 16, HV_REFUSED_LENGTH, 0x38a}, /* DMInfo's length */
+        {0x38d, 25, HV_REFUSED_END, 0x38a},   /* DMInfo past Table's end: its length too */
+        {0x07, 0, HV_REFUSED_END, 0x2b},      /* Table's length: TableDesc, an object, is past its end */
+        {0x07, 0xa3, HV_REFUSED_END, 4},      /* Table is past the end of the file: its header, without the mark */
+        {0x2e, 0xfd, HV_REFUSED_END, 0x321},  /* TableDesc's length: its last field does not fit */
+        {0x2e, 0xff, HV_REFUSED_LENGTH, 0x2b}, /* TableDesc's length: a byte is left over */
+        {0x4f, 22, HV_REFUSED_LENGTH, 0x4c},  /* a TableRecord that is shorter than its header */
     };
     static const struct fault in_file[] = {
-        {0, 0, HV_REFUSED_NAME},          /* the mark */
-        {0x1c, 9, HV_REFUSED_VERSION},    /* the header's version */
-        {0x1d, 2, HV_REFUSED_VALUE},      /* the endianness */
-        {0x1d, 0, HV_REFUSED_FACTS},      /* the other endianness */
-        {0x21, 0, HV_REFUSED_RANGE},      /* the bucket size */
-        {0x25, 6, HV_REFUSED_END},        /* the number of buckets */
-        {0x35, 2, HV_REFUSED_CHAIN},      /* case I: index number 2 for three links */
-        {0x45, 135, HV_REFUSED_LENGTH},   /* the index length */
-        {0x2f7, 2, HV_REFUSED_MAP},       /* the first last row: 2 */
+        {0, 0, HV_REFUSED_NAME, 0},           /* the mark */
+        {0x1c, 9, HV_REFUSED_VERSION, 0x19},  /* the header's version */
+        {0x1d, 2, HV_REFUSED_VALUE, 0x1d},    /* the endianness */
+        {0x1d, 0, HV_REFUSED_FACTS, 0x1d},    /* the other endianness */
+        {0x21, 0, HV_REFUSED_RANGE, 0x1e},    /* the bucket size */
+        {0x3d, 7, HV_REFUSED_RANGE, 0x3a},    /* the offset of the index */
+        {0x07, 71, HV_REFUSED_LENGTH, 4},     /* the header's length, without the mark */
+        {0x25, 6, HV_REFUSED_END, 832},       /* the number of buckets: the file's end */
+        {0x35, 2, HV_REFUSED_CHAIN, 0},       /* case I: index number 2 for three links */
+        {0x45, 135, HV_REFUSED_LENGTH, 134},  /* the index length: the first byte of the text that is left over */
+        {0x45, 133, HV_REFUSED_END, 4},       /* SSMIndex is past the end of the text: its header */
+        {584, 0, HV_REFUSED_NAME, 0},         /* SSMIndex's mark: byte 0 of the text */
+        {607, 2, HV_REFUSED_VERSION, 20},     /* its version */
+        {615, 0, HV_REFUSED_RANGE, 28},       /* rows per bucket */
+        {623, 41, HV_REFUSED_LENGTH, 36},     /* the map's length */
+        {713, 'N', HV_REFUSED_NAME, 40},      /* the map's name, which begins in the bucket before */
+        {752, 3, HV_REFUSED_FACTS, 93},       /* the first Block's count */
+        {759, 2, HV_REFUSED_MAP, 0},          /* the second last row: 518 */
+        {785, 2, HV_REFUSED_VERSION, 118},    /* the second Block's version */
     };
-    size_t i;
+    size_t i, before;
 
     room_len = 200;
     for (i = 0; i < sizeof in_table / sizeof *in_table; i++) {
-        uint8_t before = table.at[in_table[i].at];
+        uint8_t good = table.at[in_table[i].at];
         table.at[in_table[i].at] = in_table[i].byte;
-        refused_from(DESCRIPTION, in_table[i].refusal, __LINE__);
-        table.at[in_table[i].at] = before;
+        refused_from(DESCRIPTION, in_table[i].refusal, in_table[i].field, __LINE__);
+        table.at[in_table[i].at] = good;
     }
     for (i = 0; i < sizeof in_file / sizeof *in_file; i++) {
-        uint8_t before = file.at[in_file[i].at];
+        uint8_t good = file.at[in_file[i].at];
         file.at[in_file[i].at] = in_file[i].byte;
-        refused_from(CHECK, in_file[i].refusal, __LINE__);
-        file.at[in_file[i].at] = before;
+        refused_from(CHECK, in_file[i].refusal, in_file[i].field, __LINE__);
+        file.at[in_file[i].at] = good;
     }
 
     /* Case G: TIME at 16, in FLAG's extent. */
     table.at[0x3a5] = 16;
-    refused_from(CHECK, HV_REFUSED_MAP, __LINE__);
+    refused_from(CHECK, HV_REFUSED_MAP, 0, __LINE__);
     table.at[0x3a5] = 17;
 
-    for (i = 0; i < file.len; i += 64) {
-        size_t before = file.len;
+    /* Cut: the first field of the header that is not there, or the header where only its end is missing, or the file's end. */
+    before = file.len;
+    for (i = 0; i < before; i++) {
+        uint64_t field = i < 4 ? 0 : i < 8 ? 4 : i < 25 ? 8 : i < 29 ? 25 : i < 74 ? 4 : i;
         file.len = i;
-        refused_from(CHECK, HV_REFUSED_END, __LINE__);
-        file.len = before;
+        blamed_from(CHECK, HV_REFUSED_END, field, __LINE__);
+        if (i % 64 == 0)
+            refused_from(CHECK, HV_REFUSED_END, field, __LINE__);
     }
-    for (i = 0; i < table.len; i += 64) {
-        size_t before = table.len;
+    file.len = before;
+    before = table.len;
+    for (i = 0; i < before; i++) {
+        uint64_t field = i < 4 ? 0 : i < 8 ? 4 : i < 17 ? 8 : i < 21 ? 17 : 4;
         table.len = i;
-        refused_from(DESCRIPTION, HV_REFUSED_END, __LINE__);
-        table.len = before;
+        blamed_from(DESCRIPTION, HV_REFUSED_END, field, __LINE__);
+        if (i % 64 == 0)
+            refused_from(DESCRIPTION, HV_REFUSED_END, field, __LINE__);
     }
+    table.len = before;
 }
 
 /* Bytes after the Table object are not read, but they count. */
 static void ask_of_long_table(void)
 {
-    const uint64_t description[] = {7, 1, 3, 1};
+    const uint64_t description[] = {7, 1, 3, 1, 0};
     size_t before = table.len;
 
     table.len = 65536;
     ACCEPTED(DESCRIPTION, description);
     table.len = 65537;
-    refused_from(DESCRIPTION, HV_REFUSED_RANGE, __LINE__);
+    refused_from(DESCRIPTION, HV_REFUSED_RANGE, 65536, __LINE__);
+    table.len = 65600;
+    refused_from(DESCRIPTION, HV_REFUSED_RANGE, 65536, __LINE__);
     table.len = before;
+}
+
+/* Number and byte of every question over table.f1 of `arrays`, by SCAN_NUMBER, which its manager keeps. */
+static void blamed_incremental(enum hv_number refusal, uint64_t byte, int line)
+{
+    int question;
+
+    row = 7;
+    for (question = CHECK; question <= VIEW_PLANNED; question++) {
+        number = question == CHECK ? 1 : 4;
+        blamed((enum question)question, refusal, byte, line);
+    }
 }
 
 /* Little endian, with four managers: table.f1 is IncrementalStMan's. */
 static void ask_of_incremental(const char *samples)
 {
-    const uint64_t description[] = {20, 0, 15, 4};
+    static const struct fault faults[] = {
+        {0x20, 1, HV_REFUSED_FACTS, 0x20},      /* the endianness */
+        {0x24, 15, HV_REFUSED_RANGE, 0x21},     /* the bucket size */
+        {0x28, 4, HV_REFUSED_END, 986},         /* the number of buckets: the file's end */
+        {0x383, 0, HV_REFUSED_NAME, 0x380},     /* ISMIndex's mark */
+        {0x387, 87, HV_REFUSED_END, 0x384},     /* ISMIndex past the end of the file: its header */
+        {0x397, 2, HV_REFUSED_VERSION, 0x394},  /* its version */
+        {0x3b0, 4, HV_REFUSED_FACTS, 0x3ad},    /* the count of first rows */
+        {0x39f, 34, HV_REFUSED_LENGTH, 0x39c},  /* the length of the first Block: a byte is left over */
+        {0x3c0, 30, HV_REFUSED_END, 0x3bd},     /* that of the second: it is past the end of ISMIndex */
+        {0x3c0, 28, HV_REFUSED_END, 0x3d6},     /* and now its last element does not fit */
+        {0x303, 1, HV_REFUSED_VERSION, 0x300},  /* the high byte of x in bucket 2, which is the first of the index */
+        {0x300, 126, HV_REFUSED_END, 0x37e},    /* x: the index part has two bytes, and the bucket ends in a number */
+        {0x300, 128, HV_REFUSED_END, 0x380},    /* x: it has none */
+        {0x300, 3, HV_REFUSED_MAP, 0},          /* x below 4 */
+        {0x32c, 9, HV_REFUSED_MAP, 0},          /* a start */
+    };
+    const uint64_t description[] = {20, 0, 15, 4, 0};
     const uint64_t kinds[] = {HV_STANDARD, HV_INCREMENTAL, HV_OTHER_KIND, HV_OTHER_KIND};
     const uint64_t sequences[] = {0, 1, 2, 4};
-    const uint64_t scan_number[] = {4, 1, HV_TYPE_INT, 1, 32, 0, 0, 0, 128};
-    const uint64_t place[] = {6368, 32, 0, 0};
-    const uint64_t view[] = {796, 4};
-    const uint64_t bucket_size[] = {128};
+    const uint64_t scan_number[] = {4, 1, HV_TYPE_INT, 1, 32, 0, 0, 0, 128, 0};
+    const uint64_t place[] = {6368, 32, 0, 0, 0};
+    const uint64_t view[] = {796, 4, 0};
+    const uint64_t bucket_size[] = {128, 0};
+    size_t i, before;
 
     read_file(&table, samples, "arrays", "table.dat");
     read_file(&file, samples, "arrays", "table.f1");
@@ -478,6 +570,23 @@ static void ask_of_incremental(const char *samples)
         plan[HV_PLAN_BUCKET_SIZE] = 129;
         REFUSED(VIEW_PLANNED, HV_REFUSED_PLAN);
     }
+
+    set_plan(scan_number);
+    for (i = 0; i < sizeof faults / sizeof *faults; i++) {
+        uint8_t good = file.at[faults[i].at];
+        file.at[faults[i].at] = faults[i].byte;
+        blamed_incremental(faults[i].refusal, faults[i].field, __LINE__);
+        file.at[faults[i].at] = good;
+    }
+    /* Cut: as StandardStMan's; and ISMIndex stands behind the buckets, so its fields are counted from the file's start. */
+    before = file.len;
+    for (i = 0; i < before; i++) {
+        uint64_t header = i < 4 ? 0 : i < 8 ? 4 : i < 28 ? 8 : i < 32 ? 28 : i < 57 ? 4 : i;
+        uint64_t index = i < 900 ? 896 : i < 904 ? 900 : i < 916 ? 904 : i < 920 ? 916 : 900;
+        file.len = i;
+        blamed_incremental(HV_REFUSED_END, i < 896 ? header : index, __LINE__);
+    }
+    file.len = before;
 }
 
 /* The bits of elements: each type's, and none of a String and of numbers that are no type's or only end as one does. */
