@@ -43,18 +43,20 @@ expect() {
     says "$message"
 }
 
-expect 0 "no difference" --min 12000 --each 1..8 tables 1 12000 , large 1 20 , bad -- "$model"
+expect 0 "no difference" --min 12000 --each 1..8 --bytes table tables 1 12000 , large 1 20 , bad -- "$model"
 expect 0 "no difference" --min 3000 prefixes -- "$model"
+expect 0 "no difference" --min 6000 --each 1..7 --bytes table,file,text fields -- "$model"
+expect 0 "no difference" --min 6000 torn -- "$model"
 expect 0 "no difference" --min 108000 types , types 1 1000 -- "$model"
-expect 0 "no difference" --min 10000 --each 1..14 standard 1 10000 -- "$model"
-expect 0 "no difference" --min 10000 --each 1..12 incremental 1 10000 -- "$model"
+expect 0 "no difference" --min 10000 --each 1..14 --bytes file,text standard 1 10000 -- "$model"
+expect 0 "no difference" --min 10000 --each 1..12 --bytes file incremental 1 10000 -- "$model"
 expect 0 "no difference" --min 5000 --each 1..14 small-file -- "$model"
 expect 0 "no difference" --min 15000 looks -- "$model"
 expect 0 "no difference" --min 10 files-large 1 10 -- "$model"
 
 expect 1 "difference at request" tables 1 3000 -- sh -c "'$model' | sed 's/^refused 7/refused 1/'"
 # The saved request is the one with the difference.
-[ "$("$model" <"$saved")" = "refused 7" ]
+"$model" <"$saved" | grep -qx 'refused 7 [0-9]*'
 expect 1 "difference at request" prefixes -- sh -c "'$model' | sed 's/^ok rows=7/ok rows=8/'"
 # A type with other bits, a refusal in place of 0, a sign that does not count, only the last two digits, a plus.
 expect 1 "difference at request" types -- sh -c "'$model' | sed 's/^ok 16$/ok 8/'"
@@ -64,7 +66,7 @@ expect 1 "difference at request" types -- sh -c "sed 's/ -/ /' | '$model'"
 expect 1 "difference at request" types -- sh -c "sed 's/[0-9]*\\([0-9][0-9]\\)$/\\1/' | '$model'"
 expect 1 "difference at request" bad -- sh -c "sed 's/+//' | '$model'"
 # A room that is not cleared, or not filled.
-expect 1 "difference at request" standard 1 1000 -- sh -c "'$model' | sed 's/^refused 9 00/refused 9 a5/'"
+expect 1 "difference at request" standard 1 1000 -- sh -c "'$model' | sed 's/^refused 9 0 00/refused 9 0 a5/'"
 expect 1 "difference at request" small-file -- sh -c "'$model' | sed 's/^ok SSM be/ok SSM 00/'"
 # LOOKS: one more, one less than the most, 1 for a single entry, not there, in a view, after a refusal, in IncrementalStMan.
 placed='^(ok [0-9]+ [0-9]+)'
@@ -72,6 +74,15 @@ for change in "s/$placed 2 /\\1 3 /" "s/$placed 12 /\\1 11 /" "s/$placed 0 be/\\
     "s/$placed ([^ ]*)\$/\\1 0 \\2/" "s/^refused 9 /refused 9 0 /" "s/$placed 0 (-|0*)\$/\\1 1 \\2/"; do
     expect 1 "difference at request" looks -- sh -c "'$model' | sed -E '$change'"
 done
+# The byte: one more, 0 in its place, not there, in a room's place, and in an answer that is not refused; not in a listing.
+for change in 's/^(refused . [0-9]*)3( |$)/\14\2/' 's/^(refused .) [0-9]+/\1 0/' 's/^(refused .) [0-9]+/\1/' \
+    's/^(refused .) [0-9]+ [0-9a-f-]+$/\1 0/' 's/^ok SSM/ok 0 SSM/' 's/^(726566757365642...)20.*0a$/\10a/'; do
+    expect 1 "difference at request" fields -- sh -c "'$model' | sed -E '$change'"
+done
+# A byte with a refusal above 7; the file's place of a byte in index text; the length of a torn file less 1.
+expect 1 "difference at request" small-file -- sh -c "'$model' | sed -E 's/^(refused (8|9|1[0-4])) 0/\1 4/'"
+expect 1 "difference at request" torn -- sh -c "'$model' | sed 's/^refused 7 134 /refused 7 798 /'"
+expect 1 "difference at request" torn -- sh -c "'$model' | sed 's/^refused 1 831 /refused 1 830 /'"
 expect 1 "difference at request" incremental 1 1000 -- sh -c "'$model' | sed 's/^refused 11/refused 1/'"
 # The saved request again.
 expect 1 "difference at request 1 " --replay "$saved" -- sh -c "'$model' | sed 's/^refused 11/refused 1/'"
@@ -84,6 +95,8 @@ expect 1 "ended with" tables 1 100 -- sh -c "'$model'; exit 3"
 expect 1 "does not start" tables 1 100 -- "$scratch/none"
 expect 1 "are needed" --min 101 tables 1 100 -- "$model"
 expect 1 "did not occur: 9" --each 1..9 tables 1 3000 -- "$model"
+expect 1 "with a byte of the text: 1, 2, 3, 4, 6, 7" --bytes table,text tables 1 3000 -- "$model"
+expect 1 "with a byte of the file: 2, 3, 5, 6" --bytes file torn -- "$model"
 expect 2 "usage" tables -- "$model"
 
 # A campaign asks as many requests as it says, and tells how to ask the one with a difference again.
@@ -110,8 +123,10 @@ for set in tables types standard incremental; do
     "$bin/requests" "$set" 1 200 >"$scratch/requests"
     "$bin/requests" "$set" 1 200 | cmp - "$scratch/requests"
 done
-"$bin/requests" looks >"$scratch/requests"
-"$bin/requests" looks | cmp - "$scratch/requests"
+for set in fields torn looks; do
+    "$bin/requests" "$set" >"$scratch/requests"
+    "$bin/requests" "$set" | cmp - "$scratch/requests"
+done
 "$bin/requests" sample "$scratch/samples"
 diff -r "$scratch/samples" ../../samples
 

@@ -64,6 +64,28 @@ static uint64_t *out_of(struct lent *lent)
     return is("short", lent->function) && lent->out_len < lent->answer_len ? lent->scratch : lent->out;
 }
 
+/* The byte of an answer, its last number, made wrong; for a refusal that blames a field, one that blames none, and none. */
+static void spoil_byte(const char *function, uint64_t *byte, enum hv_number number)
+{
+    if (number == HV_ACCEPTED) {
+        if (is("byte-told", function))
+            *byte = 1;
+    } else if (number > HV_REFUSED_LENGTH) {
+        if (is("byte-above-7", function))
+            *byte = 1;
+    } else if (is("byte-more", function)) {
+        *byte += 1;
+    } else if (is("byte-less", function)) {
+        *byte -= *byte > 0;
+    } else if (is("byte-zero", function)) {
+        *byte = 0;
+    } else if (is("byte-low", function)) {
+        *byte &= UINT16_MAX;
+    } else if (is("byte-cut", function)) {
+        *byte = cut(*byte);
+    }
+}
+
 /* The answer of the library, which is right, made wrong. */
 static enum hv_number spoilt(struct lent *lent, enum hv_number number)
 {
@@ -86,10 +108,12 @@ static enum hv_number spoilt(struct lent *lent, enum hv_number number)
         out[lent->answer_len] = 0;
     if (is("past", function) && lent->out_len < lent->answer_len)
         out[lent->out_len] = 0;
+    if (written == lent->answer_len)
+        spoil_byte(function, &out[written - 1], number);
     if (number != HV_ACCEPTED) {
         /* `out` or the room is not cleared. */
         if (is("out-kept", function) && written > 0)
-            out[written - 1] = 1;
+            out[0] = 1;
         if (is("room-kept", function) && lent->room_len > 0)
             lent->room[lent->room_len - 1] = 0xa5;
         /* One refusal is taken for the next. */
@@ -220,20 +244,21 @@ static enum hv_number planned(struct lent *lent, by_plan *real, const uint8_t *t
     static uint8_t room[HV_ROOM_MOST];
     const char *function = lent->function;
     int one_passes = is("not-compared", function), all_pass = is("never-stale", function), tenth = is("tenth", function);
-    uint64_t asked[HV_PLAN_LEN], fresh[HV_PLAN_LEN];
+    enum { N = HV_PLAN_NUMBERS };
+    uint64_t asked[N], fresh[N];
     size_t i;
 
     row = passed(function, 0, row);
-    if (plan_len >= HV_PLAN_LEN) {
-        for (i = 0; i < HV_PLAN_LEN; i++)
+    if (plan_len >= N) {
+        for (i = 0; i < N; i++)
             asked[i] = passed(function, 1, plan[i]);
         if ((one_passes || all_pass || tenth) &&
-            REAL(hv_plan)(table, table_len, file, file_len, asked[0], room, sizeof room, fresh, HV_PLAN_LEN) == HV_ACCEPTED) {
+            REAL(hv_plan)(table, table_len, file, file_len, asked[0], room, sizeof room, fresh, N) == HV_ACCEPTED) {
             /* A number of the plan is not compared, or none is, so that 12 is never given; or a tenth one is, with 0. */
-            for (i = 0; i < HV_PLAN_LEN; i++)
+            for (i = 0; i < N; i++)
                 if (all_pass || (one_passes && i == fault.number))
                     asked[i] = fresh[i];
-            if (tenth && plan_len > HV_PLAN_LEN && plan[HV_PLAN_LEN] != 0)
+            if (tenth && plan_len > N && plan[N] != 0)
                 asked[HV_PLAN_BUCKET_SIZE] ^= 1;
         }
         plan = asked;

@@ -3,6 +3,8 @@
 pub mod fields;
 pub mod numbers;
 
+use std::fmt;
+
 extern "C" {
     fn hv_description(table: *const u8, table_len: usize, out: *mut u64, out_len: usize) -> u32;
     fn hv_column(table: *const u8, table_len: usize, position: u64, out: *mut u64, out_len: usize) -> u32;
@@ -90,26 +92,44 @@ extern "C" {
     fn hv_element_bits(number: u64) -> u64;
 }
 
-/// Row count, byte order (1: big endian), number of columns, number of managers.
-pub const DESCRIPTION: usize = 4;
+// How many numbers the answers have. The last of each is the byte that a refusal blames.
+
+/// Row count, byte order (1: big endian), number of columns, number of managers, byte.
+pub const DESCRIPTION: usize = 5;
 /// Name start, name length, data type number, array, options, elements, string maximum, cell bits, sequence number, set,
-/// offset.
-pub const COLUMN: usize = 11;
-/// Sequence number, kind (1 StandardStMan, 2 IncrementalStMan, 0 other), name start, name length.
-pub const MANAGER: usize = 4;
-/// The position.
-pub const POSITION: usize = 1;
-/// The bucket size.
-pub const CHECK: usize = 1;
-/// Position, sequence number, data type, element count, cell bits, set, offset, rows per bucket, bucket size.
-pub const PLAN: usize = 9;
-/// First bit, bit count, looks, entries.
-pub const PLACE: usize = 4;
-/// Start and length in bytes.
-pub const VIEW: usize = 2;
+/// offset, byte.
+pub const COLUMN: usize = 12;
+/// Sequence number, kind (1 StandardStMan, 2 IncrementalStMan, 0 other), name start, name length, byte.
+pub const MANAGER: usize = 5;
+/// The position, byte.
+pub const POSITION: usize = 2;
+/// The bucket size, byte.
+pub const CHECK: usize = 2;
+/// Position, sequence number, data type, element count, cell bits, set, offset, rows per bucket, bucket size; byte.
+pub const PLAN: usize = 10;
+/// First bit, bit count, looks, entries, byte.
+pub const PLACE: usize = 5;
+/// Start and length in bytes, byte.
+pub const VIEW: usize = 3;
+
+/// The numbers of a plan: those of its answer but for the byte.
+pub const PLAN_NUMBERS: usize = PLAN - 1;
 
 /// A plan has too few numbers.
 pub const SHORT: u64 = 255;
+
+/// A refusal: the number that the function gives, and the byte that it writes.
+#[derive(Clone, Copy, Debug, PartialEq, Eq)]
+pub struct Refusal {
+    pub number: u64,
+    pub byte: u64,
+}
+
+impl fmt::Display for Refusal {
+    fn fmt(&self, out: &mut fmt::Formatter<'_>) -> fmt::Result {
+        write!(out, "refused {} {}", self.number, self.byte)
+    }
+}
 
 /// A call of one of the functions that ask of files, but for the files, the room and `out`.
 #[derive(Clone, Copy, Debug, PartialEq, Eq)]
@@ -185,46 +205,49 @@ impl Question<'_> {
         number.into()
     }
 
-    /// The answer's numbers, or the number of a refusal.
-    fn answer<const N: usize>(&self, table: &[u8], file: &[u8], room: &mut [u8]) -> Result<[u64; N], u64> {
+    /// The answer's numbers, or the refusal.
+    fn answer<const N: usize>(&self, table: &[u8], file: &[u8], room: &mut [u8]) -> Result<[u64; N], Refusal> {
         let mut out = [0xA5A5_A5A5_A5A5_A5A5; N];
-        match self.ask(table, file, room, &mut out) {
-            0 => Ok(out),
-            refused => {
-                assert!(out.iter().all(|&n| n == 0), "a refusal carries zeros");
-                Err(refused)
-            }
+        let number = self.ask(table, file, room, &mut out);
+        let byte = out[N - 1];
+        if number == 0 {
+            assert_eq!(byte, 0, "an answer that is not refused carries no byte");
+            return Ok(out);
         }
+        assert!(out[..N - 1].iter().all(|&n| n == 0), "a refusal carries zeros");
+        Err(Refusal { number, byte })
     }
 }
 
-pub fn description(table: &[u8]) -> Result<[u64; DESCRIPTION], u64> {
+pub fn description(table: &[u8]) -> Result<[u64; DESCRIPTION], Refusal> {
     Description.answer(table, &[], &mut [])
 }
 
-pub fn column(table: &[u8], position: u64) -> Result<[u64; COLUMN], u64> {
+pub fn column(table: &[u8], position: u64) -> Result<[u64; COLUMN], Refusal> {
     Column { position }.answer(table, &[], &mut [])
 }
 
-pub fn manager(table: &[u8], index: u64) -> Result<[u64; MANAGER], u64> {
+pub fn manager(table: &[u8], index: u64) -> Result<[u64; MANAGER], Refusal> {
     Manager { index }.answer(table, &[], &mut [])
 }
 
-pub fn column_by_name(table: &[u8], name: &[u8]) -> Result<u64, u64> {
-    ColumnByName { name }.answer(table, &[], &mut []).map(|[position]: [u64; POSITION]| position)
+pub fn column_by_name(table: &[u8], name: &[u8]) -> Result<u64, Refusal> {
+    ColumnByName { name }.answer(table, &[], &mut []).map(|[position, _]: [u64; POSITION]| position)
 }
 
 /// File check, for a manager's sequence number: the bucket size.
-pub fn check(table: &[u8], file: &[u8], sequence: u64, room: &mut [u8]) -> Result<u64, u64> {
-    Check { sequence }.answer(table, file, room).map(|[bucket_size]: [u64; CHECK]| bucket_size)
+pub fn check(table: &[u8], file: &[u8], sequence: u64, room: &mut [u8]) -> Result<u64, Refusal> {
+    Check { sequence }.answer(table, file, room).map(|[bucket_size, _]: [u64; CHECK]| bucket_size)
 }
 
-pub fn plan(table: &[u8], file: &[u8], position: u64, room: &mut [u8]) -> Result<[u64; PLAN], u64> {
-    Plan { position }.answer(table, file, room)
+pub fn plan(table: &[u8], file: &[u8], position: u64, room: &mut [u8]) -> Result<[u64; PLAN_NUMBERS], Refusal> {
+    let plan: [u64; PLAN] = Plan { position }.answer(table, file, room)?;
+    let [numbers @ .., _] = plan;
+    Ok(numbers)
 }
 
-type Placed = Result<[u64; PLACE], u64>;
-type Viewed = Result<[u64; VIEW], u64>;
+type Placed = Result<[u64; PLACE], Refusal>;
+type Viewed = Result<[u64; VIEW], Refusal>;
 
 /// A cell's first bit and its bit count, the looks of the search for it and the entries of its set.
 pub fn place(table: &[u8], file: &[u8], row: u64, position: u64, room: &mut [u8]) -> Placed {
@@ -232,7 +255,7 @@ pub fn place(table: &[u8], file: &[u8], row: u64, position: u64, room: &mut [u8]
 }
 
 /// The same for the plan's column.
-pub fn place_planned(table: &[u8], file: &[u8], row: u64, plan: &[u64; PLAN], room: &mut [u8]) -> Placed {
+pub fn place_planned(table: &[u8], file: &[u8], row: u64, plan: &[u64; PLAN_NUMBERS], room: &mut [u8]) -> Placed {
     PlacePlanned { row, plan }.answer(table, file, room)
 }
 
@@ -242,7 +265,7 @@ pub fn view(table: &[u8], file: &[u8], row: u64, position: u64, room: &mut [u8])
 }
 
 /// The same for the plan's column.
-pub fn view_planned(table: &[u8], file: &[u8], row: u64, plan: &[u64; PLAN], room: &mut [u8]) -> Viewed {
+pub fn view_planned(table: &[u8], file: &[u8], row: u64, plan: &[u64; PLAN_NUMBERS], room: &mut [u8]) -> Viewed {
     ViewPlanned { row, plan }.answer(table, file, room)
 }
 
@@ -265,31 +288,52 @@ mod tests {
         Check { sequence: 0 },
         Plan { position: 0 },
         Place { row: 0, position: 0 },
-        PlacePlanned { row: 0, plan: &[0; PLAN] },
+        PlacePlanned { row: 0, plan: &[0; PLAN_NUMBERS] },
         View { row: 0, position: 0 },
-        ViewPlanned { row: 0, plan: &[0; PLAN] },
+        ViewPlanned { row: 0, plan: &[0; PLAN_NUMBERS] },
     ];
 
-    // A refusal writes zeros, as many as the answer has or as fit, and clears the room.
-    #[test]
-    fn empty_table() {
+    // A refusal writes zeros and the byte, as many numbers as the answer has or as fit, and clears the room.
+    fn assert_refused(table: &[u8], number: u64, byte: u64) {
         for (k, question) in QUESTIONS.iter().enumerate() {
             for out_len in 0..20 {
                 let (mut out, mut room) = ([7; 20], [7; 5]);
-                assert_eq!(question.ask(&[], &[], &mut room, &mut out[..out_len]), 1, "{question:?}");
+                assert_eq!(question.ask(table, &[], &mut room, &mut out[..out_len]), number, "{question:?}");
+                let mut answer = vec![0; question.answer_len()];
+                answer[question.answer_len() - 1] = byte;
                 let mut expected = [7; 20];
-                expected[..out_len.min(question.answer_len())].fill(0);
+                let written = out_len.min(answer.len());
+                expected[..written].copy_from_slice(&answer[..written]);
                 assert_eq!(out, expected, "{question:?}, {out_len}");
                 assert_eq!(room, if k < 4 { [7; 5] } else { [0; 5] }, "{question:?}");
             }
         }
     }
 
+    // The mark is at byte 0; after it the header's length, its name and its version.
+    #[test]
+    fn torn_table() {
+        let header = b"\xBE\xBE\xBE\xBE\0\0\0\x11\0\0\0\x05Table\0\0\0\x02";
+        for (length, byte) in [(0, 0), (3, 0), (4, 4), (7, 4), (8, 8), (16, 8), (17, 17), (20, 17), (21, 21)] {
+            assert_refused(&header[..length], 1, byte);
+        }
+    }
+
+    #[test]
+    fn wrong_mark() {
+        assert_refused(b"\xBE\xBE\xBE\xBF", 2, 0);
+    }
+
+    #[test]
+    fn long_table() {
+        assert_refused(&[0; 65_537], 4, 65_536);
+    }
+
     // A plan of too few numbers: nothing is written, the room included.
     #[test]
     fn short_plan() {
-        for plan_len in 0..PLAN {
-            let plan = &[0; PLAN][..plan_len];
+        for plan_len in 0..PLAN_NUMBERS {
+            let plan = &[0; PLAN_NUMBERS][..plan_len];
             for question in [PlacePlanned { row: 0, plan }, ViewPlanned { row: 0, plan }] {
                 let (mut out, mut room) = ([7; 3], [7; 5]);
                 let number = question.ask(&[], &[], &mut room, &mut out);

@@ -2,7 +2,9 @@
 //! writes into `out` of every length, and the room. The first difference ends it.
 
 use crate::Question::{self, *};
-use crate::{fields, PLAN, SHORT};
+use crate::{fields, PLAN_NUMBERS, SHORT};
+use model::numbers::{self, written};
+use model::Refusal;
 use std::collections::BTreeMap;
 use std::fmt::{self, Write as _};
 use std::path::{Path, PathBuf};
@@ -19,7 +21,7 @@ const ROOM_FILL: u8 = 0xA5;
 const MARGIN: usize = 4;
 /// `out` has from none to these many numbers more than the answer.
 const LONGER: usize = 3;
-/// A plan has from none to these many numbers more than nine.
+/// A plan has from none to these many numbers more than it needs.
 const LONGER_PLAN: usize = 2;
 
 /// A table, a file that may be one of its managers', and what is asked of them.
@@ -106,23 +108,53 @@ impl Left {
     }
 }
 
-/// The model's answer.
-fn expected(question: &Question<'_>, table: &[u8], file: &[u8], room: &mut [u8]) -> Result<Vec<u64>, u64> {
-    use model::numbers;
-    let first_nine = |plan: &[u64]| plan.first_chunk::<PLAN>().copied().ok_or(SHORT);
-    let answer = match *question {
-        Description => numbers::description(table).map(Vec::from),
-        Column { position } => numbers::column(table, position).map(Vec::from),
-        Manager { index } => numbers::manager(table, index).map(Vec::from),
-        ColumnByName { name } => numbers::column_by_name(table, name).map(Vec::from),
-        Check { sequence } => numbers::check(table, file, sequence, room).map(Vec::from),
-        Plan { position } => numbers::plan(table, file, position, room).map(Vec::from),
-        Place { row, position } => numbers::place(table, file, row, position, room).map(Vec::from),
-        PlacePlanned { row, plan } => numbers::place_planned(table, file, row, first_nine(plan)?, room).map(Vec::from),
-        View { row, position } => numbers::view(table, file, row, position, room).map(Vec::from),
-        ViewPlanned { row, plan } => numbers::view_planned(table, file, row, first_nine(plan)?, room).map(Vec::from),
-    };
-    answer.map_err(u64::from)
+/// An answer of the model: what the function gives, and what it writes into `out`.
+struct Expected {
+    number: u64,
+    numbers: Vec<u64>,
+}
+
+impl Expected {
+    fn new<const N: usize>(answer: Result<[u64; N], Refusal>) -> Self {
+        let number = answer.err().map_or(0, |refusal| refusal.number.into());
+        Self { number, numbers: written(answer).into() }
+    }
+
+    /// Nothing is written where a plan is too short.
+    fn planned<const N: usize>(
+        plan: &[u64],
+        answer: impl FnOnce([u64; PLAN_NUMBERS]) -> Result<[u64; N], Refusal>,
+    ) -> Self {
+        match plan.first_chunk() {
+            Some(numbers) => Self::new(answer(*numbers)),
+            None => Self { number: SHORT, numbers: Vec::new() },
+        }
+    }
+
+    /// The model's answer. Where the plan is too short, the room stays as it is.
+    fn of(question: &Question<'_>, table: &[u8], file: &[u8], room: &mut [u8]) -> Self {
+        match *question {
+            Description => Self::new(numbers::description(table)),
+            Column { position } => Self::new(numbers::column(table, position)),
+            Manager { index } => Self::new(numbers::manager(table, index)),
+            ColumnByName { name } => Self::new(numbers::column_by_name(table, name)),
+            Check { sequence } => Self::new(numbers::check(table, file, sequence, room)),
+            Plan { position } => Self::new(numbers::plan(table, file, position, room)),
+            Place { row, position } => Self::new(numbers::place(table, file, row, position, room)),
+            PlacePlanned { row, plan } => {
+                Self::planned(plan, |plan| numbers::place_planned(table, file, row, plan, room))
+            }
+            View { row, position } => Self::new(numbers::view(table, file, row, position, room)),
+            ViewPlanned { row, plan } => {
+                Self::planned(plan, |plan| numbers::view_planned(table, file, row, plan, room))
+            }
+        }
+    }
+
+    /// The byte of a refusal, 0 where nothing is refused.
+    fn byte(&self) -> u64 {
+        self.numbers.last().copied().unwrap_or(0)
+    }
 }
 
 /// What was compared so far.
@@ -131,6 +163,8 @@ pub struct Comparison {
     calls: u64,
     /// How often each function returned each number, by questions.
     given: BTreeMap<(&'static str, u64), u64>,
+    /// The largest byte that each function told with each number, if it told one above 0.
+    bytes: BTreeMap<(&'static str, u64), u64>,
     /// The largest first number that each function gave.
     largest: BTreeMap<&'static str, u64>,
 }
@@ -140,19 +174,10 @@ impl Comparison {
     fn ask(&mut self, table: &[u8], file: &[u8], room_len: usize, question: Question<'_>) -> Compared {
         let mut room = vec![ROOM_FILL; MARGIN + room_len + MARGIN];
         let lent = MARGIN..MARGIN + room_len;
-        let answer = expected(&question, table, file, &mut room[lent.clone()]);
-        let number = answer.as_ref().err().copied().unwrap_or(0);
-        *self.given.entry((question.function(), number)).or_default() += 1;
-        if let Ok(numbers) = &answer {
-            let largest = self.largest.entry(question.function()).or_default();
-            *largest = numbers[0].max(*largest);
-        }
+        let expected = Expected::of(&question, table, file, &mut room[lent.clone()]);
+        self.count(question.function(), &expected);
+        let Expected { number, numbers: written } = expected;
         let n = question.answer_len();
-        let written = match answer {
-            Ok(numbers) => numbers,
-            Err(SHORT) => Vec::new(),
-            Err(_) => vec![0; n],
-        };
         let most = MARGIN + n + LONGER + MARGIN;
         let mut model = Left { number, out: vec![OUT_FILL; most], room };
         let mut library = Left { number: 0, out: vec![OUT_FILL; most], room: vec![ROOM_FILL; model.room.len()] };
@@ -176,6 +201,19 @@ impl Comparison {
             }
         }
         Ok(())
+    }
+
+    fn count(&mut self, function: &'static str, expected: &Expected) {
+        let given = (function, expected.number);
+        *self.given.entry(given).or_default() += 1;
+        if expected.byte() > 0 {
+            let largest = self.bytes.entry(given).or_default();
+            *largest = expected.byte().max(*largest);
+        }
+        if expected.number == 0 {
+            let largest = self.largest.entry(function).or_default();
+            *largest = expected.numbers[0].max(*largest);
+        }
     }
 
     /// What table.dat says: all columns and managers and some that are not there, and names.
@@ -225,8 +263,8 @@ impl Comparison {
         let mut planned = Vec::new();
         for position in (0..columns).chain(absent(columns, columns - 1)) {
             ask(room, Plan { position })?;
-            if let Ok(plan) = model::numbers::plan(table, file, position, &mut vec![0; room]) {
-                planned.push(plan);
+            if let Ok(plan) = model::plan(table, file, position, &mut vec![0; room]) {
+                planned.push(plan.numbers());
             }
         }
         let mut cells = planned.clone();
@@ -264,7 +302,7 @@ impl Comparison {
             ask(room, View { row, position: fresh[0] })?;
             ask(room, ViewPlanned { row, plan: &fresh })?;
         }
-        for number in 0..PLAN {
+        for number in 0..PLAN_NUMBERS {
             for other in [fresh[number] + 1, fresh[number] + (1 << 32), fresh[number] ^ 1 << rng.below(64), 0] {
                 let mut plan = fresh;
                 plan[number] = other;
@@ -272,7 +310,7 @@ impl Comparison {
                 ask(room, ViewPlanned { row, plan: &plan })?;
             }
         }
-        for plan_len in 0..=PLAN + LONGER_PLAN {
+        for plan_len in 0..=PLAN_NUMBERS + LONGER_PLAN {
             let mut plan = fresh.to_vec();
             plan.extend([rng.number(), rng.number()]);
             for row in [row, row_count] {
@@ -286,7 +324,7 @@ impl Comparison {
     /// The bits of an element, from a type's number.
     fn element_bits(&mut self, number: u64) -> Compared {
         let function = "hv_element_bits";
-        let (model, library) = (model::numbers::element_bits(number), crate::element_bits(number));
+        let (model, library) = (numbers::element_bits(number), crate::element_bits(number));
         self.calls += 1;
         *self.given.entry((function, model)).or_default() += 1;
         if model == library {
@@ -301,8 +339,8 @@ impl Comparison {
         })
     }
 
-    /// What must have been asked: each function accepted, and refused with each number that the header names for it; of the
-    /// bits of an element, every size.
+    /// What must have been asked: each function accepted, and refused with each number that the header names for it, with
+    /// those from 1 to 7 at a byte above 0 too; of the bits of an element, every size.
     fn missing(&self) -> Vec<String> {
         let of_file = [1, 2, 3, 4, 5, 6, 7, 8, 10, 11, 13];
         let (of_table, of_position) = (&of_file[..7], &of_file[..8]);
@@ -332,6 +370,10 @@ impl Comparison {
             if !self.given.contains_key(&(function, 0)) {
                 missing.push(format!("{function} did not give 0"));
             }
+            let bytes: Vec<u64> = self.bytes.keys().filter(|(f, _)| *f == function).map(|(_, n)| *n).collect();
+            if function != "hv_element_bits" && bytes != of_table {
+                missing.push(format!("{function} is to give {of_table:?} with a byte, and gave {bytes:?}"));
+            }
         }
         missing
     }
@@ -348,6 +390,21 @@ impl Comparison {
         }
         Ok(())
     }
+}
+
+/// Files above 4 GiB that are refused there: one without its last byte, and one with another version of its ISMIndex.
+fn faulty_above_4_gib() -> [(u64, fn() -> Case); 2] {
+    let torn = || {
+        let mut case = Case::whole(&large_files::standard_above_4_gib(1));
+        case.file.pop();
+        case
+    };
+    let version = || {
+        let mut subject = large_files::incremental_above_4_gib(0);
+        subject.file.index.header.version = 2;
+        Case::whole(&subject)
+    };
+    [(1, torn), (3, version)]
 }
 
 /// Numbers that are not below `count`, some of which are the `good` one, cut to 32 bits or less.
@@ -427,14 +484,20 @@ fn compare(comparison: &mut Comparison, seed: u64, count: u64) -> Result<(), Str
             compared.map_err(|what| format!("above 4 GiB {number}: {what}"))?;
         }
     }
+    for (number, make) in faulty_above_4_gib() {
+        at("refused above 4 GiB", number, comparison.file(&make(), &mut rng(number)))?;
+        if comparison.bytes.get(&("hv_check", number)).is_none_or(|byte| *byte <= 1 << 32) {
+            return Err(format!("refused above 4 GiB: {number} has no byte there"));
+        }
+    }
     // A set with the most entries that there can be: 134 MB, nearly all zero. Of some first and last rows of entries.
     for endianness in [0, 1] {
         let mut case = Case::whole(&large_files::most_entries(endianness));
         let last = case.rows[case.rows.len() - 1];
         case.rows = case.rows.into_iter().step_by(601).chain([last]).collect();
         at("4,095 entries", endianness.into(), comparison.file(&case, &mut rng(0)))?;
-        let first = model::numbers::place(&case.table, &case.file, 0, 0, &mut vec![0; case.room]);
-        if first.map(|[.., looks, entries]| [looks, entries]) != Ok([12, 4095]) {
+        let first = numbers::place(&case.table, &case.file, 0, 0, &mut vec![0; case.room]);
+        if first.map(|[.., looks, entries, _]| [looks, entries]) != Ok([12, 4095]) {
             return Err("4,095 entries: row 0 is not found after 12 looks".to_string());
         }
     }

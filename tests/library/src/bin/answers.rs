@@ -1,7 +1,7 @@
 //! Answers request lines with the proved library. The listing is what the proved program prints; HELVIDRANE_LISTING names it.
 
 use library::fields::{bytes, hex, number, signed};
-use library::{PLACE, PLAN, VIEW};
+use library::{Refusal, PLACE, PLAN_NUMBERS, VIEW};
 use std::fmt::Write as _;
 use std::io::{self, BufRead, BufWriter, Write};
 use std::process::{Command, Stdio};
@@ -33,8 +33,8 @@ fn part(table: &[u8], start: u64, len: u64) -> &[u8] {
     &table[start as usize..(start + len) as usize]
 }
 
-fn describe(table: &[u8]) -> Result<String, u64> {
-    let [rows, big, columns, managers] = library::description(table)?;
+fn describe(table: &[u8]) -> Result<String, Refusal> {
+    let [rows, big, columns, managers, _] = library::description(table)?;
     let mut text = format!("ok rows={rows} be={big} cols=[");
     for position in 0..columns {
         let c = library::column(table, position)?;
@@ -64,8 +64,8 @@ fn listing(program: &str, table: &[u8]) -> io::Result<Vec<u8>> {
 }
 
 /// The kind of the manager that a check accepted.
-fn kind(table: &[u8], sequence: u64) -> Result<&'static str, u64> {
-    let [_, _, _, managers] = library::description(table)?;
+fn kind(table: &[u8], sequence: u64) -> Result<&'static str, Refusal> {
+    let [_, _, _, managers, _] = library::description(table)?;
     for index in 0..managers {
         let m = library::manager(table, index)?;
         if m[0] == sequence {
@@ -88,7 +88,7 @@ fn plan(table: &str, file: &str, position: &str, room: &str) -> Option<String> {
 }
 
 /// Nine numbers.
-fn plan_of(field: &str) -> Option<[u64; PLAN]> {
+fn plan_of(field: &str) -> Option<[u64; PLAN_NUMBERS]> {
     field.split(',').map(number).collect::<Option<Vec<u64>>>()?.try_into().ok()
 }
 
@@ -96,7 +96,7 @@ fn plan_of(field: &str) -> Option<[u64; PLAN]> {
 fn cell<T, const N: usize>(
     [table, file, row, room]: [&str; 4],
     of: Option<T>,
-    ask: fn(&[u8], &[u8], u64, T, &mut [u8]) -> Result<[u64; N], u64>,
+    ask: fn(&[u8], &[u8], u64, T, &mut [u8]) -> Result<[u64; N], Refusal>,
     text: fn([u64; N]) -> String,
 ) -> Option<String> {
     let (table, file, row, mut room) = (bytes(table)?, bytes(file)?, number(row)?, lent(room)?);
@@ -105,20 +105,20 @@ fn cell<T, const N: usize>(
 }
 
 /// A line does not have the entries.
-fn place_text([first, count, looks, _]: [u64; PLACE]) -> String {
+fn place_text([first, count, looks, ..]: [u64; PLACE]) -> String {
     format!("{first} {count} {looks}")
 }
 
-fn view_text([start, length]: [u64; VIEW]) -> String {
+fn view_text([start, length, _]: [u64; VIEW]) -> String {
     format!("{start} {length}")
 }
 
-fn refused(number: u64) -> String {
-    format!("refused {number}")
+fn refused(refusal: Refusal) -> String {
+    refusal.to_string()
 }
 
 /// An answer, then the whole room.
-fn with_room(answer: Result<String, u64>, room: &[u8]) -> String {
+fn with_room(answer: Result<String, Refusal>, room: &[u8]) -> String {
     format!("{} {}", answer.map_or_else(refused, |text| format!("ok {text}")), hex(room))
 }
 

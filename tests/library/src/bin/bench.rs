@@ -53,7 +53,7 @@ fn description(what: &str, table: &[u8], calls: u32) {
 }
 
 /// The numbers of a place as the model has them.
-fn placed_as([first_bit, bit_count, looks, entries]: [u64; library::PLACE]) -> model::Placed {
+fn placed_as([first_bit, bit_count, looks, entries, _]: [u64; library::PLACE]) -> model::Placed {
     model::Placed { first_bit, bit_count, looks, entries }
 }
 
@@ -161,7 +161,7 @@ impl Files {
         let row = rows - 1;
         let ours = library::view(table, file, row, *column, &mut room);
         let theirs = model::view(table, file, row, *column, &mut other);
-        assert_eq!(ours.ok().map(|[_, length]| length), theirs.ok().map(|part| part.len() as u64), "{}", self.what);
+        assert_eq!(ours.ok().map(|[_, length, _]| length), theirs.ok().map(|part| part.len() as u64), "{}", self.what);
         compare(
             self.what,
             self.calls,

@@ -65,12 +65,12 @@ fn answer(pair: &Pair, question: &Question) -> String {
             .map(|[first, count, ..]| format!("bits {first} to {}", first + count - 1)),
         View { row, column } => position(column)
             .and_then(|position| library::view(table, file, row, position, &mut room))
-            .map(|[start, length]| format!("bytes {start} to {}", start + length - 1)),
+            .map(|[start, length, _]| format!("bytes {start} to {}", start + length - 1)),
     };
     let mut text = if told.is_ok() { index_text(file) } else { Vec::new() };
     text.resize(ROOM, 0);
     assert_eq!(room, text, "the room");
-    told.unwrap_or_else(|refused| format!("refused {refused}"))
+    told.unwrap_or_else(|refusal| refusal.to_string())
 }
 
 /// A line: the case, the bytes that the variant changes, the question and the answer.

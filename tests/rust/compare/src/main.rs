@@ -4,6 +4,7 @@
 //! the model, so that no more than one line of each is held at a time.
 
 mod options;
+mod part;
 mod tally;
 
 use options::Options;
@@ -57,7 +58,7 @@ fn run(options: &Options) -> Result<(), String> {
         return Err(format!("the command answered all requests, but ended with {status}"));
     }
     print!("{tally}");
-    tally.check(options.min, options.each.clone())
+    tally.check(options.min, options.each.clone(), &options.bytes)
 }
 
 /// The request lines of the saved file and of all sets, one after the other.

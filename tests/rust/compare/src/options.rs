@@ -1,5 +1,6 @@
 //! The command line.
 
+use crate::part::Part;
 use std::ops::RangeInclusive;
 use std::path::PathBuf;
 use writer::sets::{self, Set};
@@ -10,6 +11,8 @@ pub struct Options {
     pub min: u64,
     /// The refusal numbers that must occur.
     pub each: RangeInclusive<usize>,
+    /// Where each refusal number that can blame a field there must do so.
+    pub bytes: Vec<Part>,
     /// Where the first request with a difference goes.
     pub save: PathBuf,
     /// A file of request lines, which come before those of the sets.
@@ -26,11 +29,15 @@ pub fn usage() -> String {
 
 Gives the sets' request lines to COMMAND, one a line, and compares its answers,
 one a line, with the model's. Prints how often each question was accepted and
-refused with each number. Fails at the first difference, and also if COMMAND
-gives too few or too many answers or ends with an error.
+refused with each number, and how often each number had a byte above 0, in
+table.dat, in a manager's file or in index text. Fails at the first difference,
+and also if COMMAND gives too few or too many answers or ends with an error.
 
   --min TOTAL      fail if there are fewer requests
   --each FROM..TO  fail if one of these refusal numbers does not occur
+  --bytes PART[,PART]..
+                   fail if a refusal number does not occur with a byte above 0
+                   in this part, though it can: table, file or text
   --save FILE      where to put the request with the first difference;
                    target/tests/difference.txt if not given
   --replay FILE    ask the request lines of this file, before the sets
@@ -48,6 +55,7 @@ impl Options {
         let mut options = Self {
             min: 0,
             each: RangeInclusive::new(1, 0),
+            bytes: Vec::new(),
             save: PathBuf::from("target/tests/difference.txt"),
             replay: None,
             sets: Vec::new(),
@@ -65,6 +73,7 @@ impl Options {
                     options.min = value.parse().map_err(|_| format!("no number: {value}"))?
                 }
                 "--each" => options.each = range(value).ok_or(format!("no range: {value}"))?,
+                "--bytes" => options.bytes = parts(value).ok_or(format!("no parts: {value}"))?,
                 "--save" => options.save = PathBuf::from(value),
                 "--replay" => options.replay = Some(PathBuf::from(value)),
                 _ => return Err(format!("no such option: {option}")),
@@ -88,6 +97,11 @@ fn range(text: &str) -> Option<RangeInclusive<usize>> {
     (*range.start() > 0 && *range.end() < crate::tally::NUMBERS).then_some(range)
 }
 
+/// Names of parts with commas between them.
+fn parts(text: &str) -> Option<Vec<Part>> {
+    text.split(',').map(Part::from_name).collect()
+}
+
 #[cfg(test)]
 mod tests {
     use super::*;
@@ -100,10 +114,17 @@ mod tests {
     fn options_sets_and_command() {
         let options =
             parse("--min 10 --each 1..8 tables 1 20, prefixes , large -- sh -c x").unwrap();
-        assert_eq!((options.min, options.each), (10, 1..=8));
+        assert_eq!((options.min, options.each, options.bytes), (10, 1..=8, vec![]));
         let large = Set::Large { seed: 1, count: 300 };
         assert_eq!(options.sets, [Set::Tables { seed: 1, count: 20 }, Set::Prefixes, large]);
         assert_eq!(options.command, ["sh", "-c", "x"]);
+    }
+
+    #[test]
+    fn parts_of_bytes() {
+        assert_eq!(parse("--bytes table bad -- cat").unwrap().bytes, [Part::Table]);
+        let options = parse("--bytes text,file bad -- cat").unwrap();
+        assert_eq!(options.bytes, [Part::Text, Part::File]);
     }
 
     #[test]
@@ -140,6 +161,8 @@ mod tests {
             "--each 1-8 prefixes -- cat",
             "--every 1..8 prefixes -- cat",
             "--each 1..15 prefixes -- cat",
+            "--bytes  prefixes -- cat",
+            "--bytes table,index prefixes -- cat",
             "--replay -- cat",
             "standard 1 -- cat",
             "types 1 -- cat",

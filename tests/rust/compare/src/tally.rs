@@ -1,5 +1,6 @@
-//! How often each question was accepted and refused.
+//! How often each question was accepted and refused, and with a byte.
 
+use crate::part::Part;
 use std::collections::BTreeMap;
 use std::fmt;
 use std::ops::RangeInclusive;
@@ -11,6 +12,9 @@ pub const NUMBERS: usize = 15;
 pub struct Tally {
     /// By question word: how often each refusal number was the answer.
     questions: BTreeMap<String, [u64; NUMBERS]>,
+    /// By what the byte counts in: how often each refusal number had one.
+    /// Byte 0, which may be a field's or none, does not count.
+    bytes: BTreeMap<Part, [u64; NUMBERS]>,
     no_requests: u64,
 }
 
@@ -25,7 +29,11 @@ impl Tally {
             self.questions.insert(question.to_string(), [0; NUMBERS]);
         }
         let counts = self.questions.get_mut(question).expect("it was just put there");
-        counts[refusal(question, answer)] += 1;
+        let [number, byte] = refusal(question, answer);
+        counts[number] += 1;
+        if byte > 0 {
+            self.bytes.entry(Part::of(request)).or_insert([0; NUMBERS])[number] += 1;
+        }
     }
 
     pub fn total(&self) -> u64 {
@@ -36,76 +44,142 @@ impl Tally {
         self.questions.values().map(|counts| counts[number]).sum()
     }
 
-    /// Fails if there were too few requests or a refusal number is missing.
-    pub fn check(&self, min: u64, each: RangeInclusive<usize>) -> Result<(), String> {
+    /// How often a refusal number had a byte of this part.
+    fn with_byte(&self, part: Part, number: usize) -> u64 {
+        self.bytes.get(&part).map_or(0, |counts| counts[number])
+    }
+
+    /// Fails if there were too few requests, or a refusal number is missing, at
+    /// all or with a byte of one of these parts.
+    pub fn check(
+        &self,
+        min: u64,
+        each: RangeInclusive<usize>,
+        bytes: &[Part],
+    ) -> Result<(), String> {
         if self.total() < min {
             return Err(format!("only {} requests, {min} are needed", self.total()));
         }
-        let missing: Vec<String> = each
-            .filter(|number| self.occurrences(*number) == 0)
-            .map(|number| number.to_string())
-            .collect();
-        if missing.is_empty() {
-            Ok(())
-        } else {
-            Err(format!("refusal numbers that did not occur: {}", missing.join(", ")))
+        let missing = each.filter(|number| self.occurrences(*number) == 0);
+        none(missing, "refusal numbers that did not occur")?;
+        for part in bytes {
+            let numbers = part.numbers().iter().copied();
+            let missing = numbers.filter(|number| self.with_byte(*part, *number) == 0);
+            let what =
+                format!("refusal numbers that did not occur with a byte of the {}", part.name());
+            none(missing, &what)?;
         }
+        Ok(())
     }
 }
 
-/// The refusal number of an answer, 0 if it is none.
-fn refusal(question: &str, answer: &str) -> usize {
+/// Fails if there is one of these numbers.
+fn none(numbers: impl Iterator<Item = usize>, what: &str) -> Result<(), String> {
+    let numbers: Vec<String> = numbers.map(|number| number.to_string()).collect();
+    if numbers.is_empty() { Ok(()) } else { Err(format!("{what}: {}", numbers.join(", "))) }
+}
+
+/// The refusal number of an answer and its byte, 0 and 0 if it is none.
+fn refusal(question: &str, answer: &str) -> [usize; 2] {
     // A listing has its refusal in its output, in hex.
     let output = if question == "listing" { model::hex::decode(answer) } else { None };
     let answer = match &output {
         Some(bytes) => str::from_utf8(bytes).unwrap_or_default().trim_end(),
         None => answer,
     };
-    let number = answer.strip_prefix("refused ").and_then(|rest| rest.split(' ').next());
-    number.map_or(0, |number| number.parse().expect("the model refuses with a number"))
+    let Some(refused) = answer.strip_prefix("refused ") else {
+        return [0; 2];
+    };
+    let mut numbers = refused.split(' ').map(str::parse);
+    [(); 2].map(|()| match numbers.next() {
+        Some(Ok(number)) => number,
+        _ => panic!("the model refuses with a number and a byte"),
+    })
 }
 
 impl fmt::Display for Tally {
     fn fmt(&self, out: &mut fmt::Formatter<'_>) -> fmt::Result {
         let last = (1..NUMBERS).rev().find(|number| self.occurrences(*number) > 0).unwrap_or(0);
-        write!(out, "{:12}{:>10}", "question", "accepted")?;
-        for number in 1..=last {
-            write!(out, "{number:>8}")?;
-        }
-        writeln!(out)?;
+        let numbers: Vec<usize> = (1..=last).collect();
+        line(out, "question", "accepted", &numbers)?;
         for (question, counts) in &self.questions {
-            write!(out, "{question:12}{:>10}", counts[0])?;
-            for count in &counts[1..=last] {
-                write!(out, "{count:>8}")?;
-            }
-            writeln!(out)?;
+            line(out, question, counts[0], &counts[1..=last])?;
+        }
+        for (part, counts) in &self.bytes {
+            line(out, &format!("byte of {}", part.name()), "", &counts[1..=last])?;
         }
         if self.no_requests > 0 {
-            writeln!(out, "{:12}{:>10}", "no request", self.no_requests)?;
+            line(out, "no request", self.no_requests, &[0; 0])?;
         }
         writeln!(out, "{} requests compared, no difference", self.total())
     }
 }
 
+/// A line of the table.
+fn line(
+    out: &mut fmt::Formatter<'_>,
+    name: &str,
+    accepted: impl fmt::Display,
+    refused: &[impl fmt::Display],
+) -> fmt::Result {
+    write!(out, "{name:13}{accepted:>9}")?;
+    for count in refused {
+        write!(out, "{count:>8}")?;
+    }
+    writeln!(out)
+}
+
 #[cfg(test)]
 mod tests {
     use super::*;
+    use model::hex;
+    use writer::buckets::BucketFile;
 
     #[test]
     fn answers_are_counted() {
         let mut tally = Tally::default();
-        tally.add("describe be", "refused 1");
+        tally.add("describe be", "refused 1 0");
         tally.add("listing -", &model::answer("listing -"));
         tally.add("column - -", "ok 3");
-        tally.add("check - 0 - 1", "refused 14 00");
+        tally.add("check - 0 - 1", "refused 14 0 00");
         tally.add("elementbits 3", "ok 16");
         tally.add("elementbits +3", "bad request");
         tally.add("nothing", "bad request");
         assert_eq!(tally.total(), 7);
         assert_eq!([0, 1, 2, 14].map(|number| tally.occurrences(number)), [2, 2, 0, 1]);
-        assert!(tally.check(7, 1..=1).is_ok());
-        assert!(tally.check(8, 1..=1).is_err());
-        assert!(tally.check(7, 1..=2).is_err());
+        assert!(tally.check(7, 1..=1, &[]).is_ok());
+        assert!(tally.check(8, 1..=1, &[]).is_err());
+        assert!(tally.check(7, 1..=2, &[]).is_err());
         assert!(tally.to_string().contains("\nelementbits          1 "));
+    }
+
+    /// The answer of the model to a question about a sample's table and a
+    /// change of its file.
+    fn add_check(tally: &mut Tally, change: impl FnOnce(&mut Vec<u8>, &mut Vec<u8>)) {
+        let subject = writer::samples::small_file();
+        let (mut table, mut file) = (subject.table.encode(), subject.file.encode());
+        change(&mut table, &mut file);
+        let request = format!("check {} 0 {} 200", hex::encode(&table), hex::encode(&file));
+        let answer = model::answer(&request);
+        tally.add(&request, &answer);
+    }
+
+    #[test]
+    fn bytes_are_counted() {
+        let mut tally = Tally::default();
+        add_check(&mut tally, |_, _| ());
+        add_check(&mut tally, |table, _| table[20] = 9); // Table's version
+        add_check(&mut tally, |table, _| table.truncate(3)); // at byte 0
+        add_check(&mut tally, |_, file| file.truncate(831));
+        add_check(&mut tally, |_, file| file[69] = 133); // the index length
+        add_check(&mut tally, |_, file| file[69] = 135);
+        add_check(&mut tally, |_, file| file[53] = 2); // a chain has no byte
+        assert_eq!([0, 1, 3, 7, 10].map(|number| tally.occurrences(number)), [1, 3, 1, 1, 1]);
+        let with_byte = |number| Part::ALL.map(|part| tally.with_byte(part, number));
+        assert_eq!([1, 3, 7, 10].map(with_byte), [[0, 1, 1], [1, 0, 0], [0, 0, 1], [0; 3]]);
+        assert!(tally.check(7, 1..=1, &[]).is_ok());
+        let missing = tally.check(7, 1..=1, &[Part::Text]).unwrap_err();
+        assert!(missing.ends_with("a byte of the text: 2, 3, 4, 6"), "{missing}");
+        assert!(tally.to_string().contains("\nbyte of text                 1       0 "));
     }
 }

@@ -1,9 +1,11 @@
 //! Reading AipsIO: RULES.md 3, and Note 260, section 2.
 //!
-//! Each function reads one field and refuses with that field's lowest number.
+//! Each function reads one field and refuses with that field's lowest number,
+//! at the byte at which the field begins.
 
 use crate::refusal::{
-    DISAGREES, DOES_NOT_FIT, ENDS_EARLY, OUT_OF_RANGE, WRONG_LENGTH, WRONG_NAME, WRONG_VERSION,
+    DISAGREES, DOES_NOT_FIT, ENDS_EARLY, OUT_OF_RANGE, Refusal, WRONG_LENGTH, WRONG_NAME,
+    WRONG_VERSION,
 };
 use std::ops::RangeInclusive;
 
@@ -13,148 +15,214 @@ const MAX_STRING: usize = 4096;
 /// Numbers of 4 bytes, as they are stored.
 pub type Numbers<'a> = &'a [[u8; 4]];
 
-/// The bytes of a file or object that are still to be read.
+/// Reads the fields of a file, or of an object in it.
+///
+/// Its small functions are inlined: results that have room for a refusal's byte
+/// are slow to hand on.
 #[derive(Clone, Debug)]
 pub struct Reader<'a> {
+    /// What is still to be read, up to the container's end.
     rest: &'a [u8],
+    /// Where that begins in the file or in the index text.
+    at: usize,
+    /// Where the header begins of the object that is read, if one is.
+    header: usize,
 }
 
 impl<'a> Reader<'a> {
-    pub fn new(bytes: &'a [u8]) -> Self {
-        Self { rest: bytes }
+    /// Reads these bytes from a place on.
+    pub fn new(bytes: &'a [u8], at: usize) -> Self {
+        Self { rest: &bytes[at..], at, header: at }
     }
 
-    pub fn bytes(&mut self, count: usize) -> Result<&'a [u8], u8> {
-        let (field, rest) = self.rest.split_at_checked(count).ok_or(ENDS_EARLY)?;
-        self.rest = rest;
-        Ok(field)
+    /// Where the next field begins.
+    pub fn at(&self) -> usize {
+        self.at
     }
 
-    fn array<const N: usize>(&mut self) -> Result<[u8; N], u8> {
-        let (field, rest) = self.rest.split_first_chunk().ok_or(ENDS_EARLY)?;
+    /// The same without so many bytes, if there are so many.
+    pub fn after(self, count: usize) -> Option<Self> {
+        Some(Self { rest: self.rest.get(count..)?, at: self.at + count, ..self })
+    }
+
+    /// The next bytes of the field that begins at `field`.
+    #[inline]
+    fn take(&mut self, count: usize, field: usize) -> Result<&'a [u8], Refusal> {
+        let (bytes, rest) =
+            self.rest.split_at_checked(count).ok_or(Refusal::at(ENDS_EARLY, field))?;
         self.rest = rest;
+        self.at += count;
+        Ok(bytes)
+    }
+
+    /// A field of so many bytes.
+    pub fn bytes(&mut self, count: usize) -> Result<&'a [u8], Refusal> {
+        self.take(count, self.at)
+    }
+
+    #[inline]
+    pub fn array<const N: usize>(&mut self) -> Result<[u8; N], Refusal> {
+        let (field, rest) =
+            self.rest.split_first_chunk().ok_or(Refusal::at(ENDS_EARLY, self.at))?;
+        self.rest = rest;
+        self.at += N;
         Ok(*field)
     }
 
-    pub fn uint(&mut self) -> Result<u32, u8> {
+    /// So many fields of one width; the first that does not fit is blamed.
+    pub fn run(&mut self, count: usize, width: usize) -> Result<&'a [u8], Refusal> {
+        let fitting = self.rest.len() / width;
+        if fitting < count {
+            return Err(Refusal::at(ENDS_EARLY, self.at + fitting * width));
+        }
+        self.bytes(count * width)
+    }
+
+    /// What a field stands for; if it is there and stands for nothing, it is
+    /// refused with `number`.
+    #[inline]
+    pub fn meaning<T, U>(
+        &mut self,
+        read: impl FnOnce(&mut Self) -> Result<T, Refusal>,
+        number: u8,
+        meaning: impl FnOnce(T) -> Option<U>,
+    ) -> Result<U, Refusal> {
+        let field = self.at;
+        meaning(read(self)?).ok_or(Refusal::at(number, field))
+    }
+
+    /// A field that is refused with `number` if it is there and does not fit.
+    #[inline]
+    pub fn judged<T>(
+        &mut self,
+        read: impl FnOnce(&mut Self) -> Result<T, Refusal>,
+        number: u8,
+        fits: impl FnOnce(&T) -> bool,
+    ) -> Result<T, Refusal> {
+        self.meaning(read, number, |value| fits(&value).then_some(value))
+    }
+
+    #[inline]
+    pub fn uint(&mut self) -> Result<u32, Refusal> {
         Ok(u32::from_be_bytes(self.array()?))
     }
 
-    pub fn uint_within(&mut self, range: RangeInclusive<u32>) -> Result<u32, u8> {
-        let value = self.uint()?;
-        if !range.contains(&value) {
-            return Err(OUT_OF_RANGE);
-        }
-        Ok(value)
+    #[inline]
+    pub fn uint_within(&mut self, range: RangeInclusive<u32>) -> Result<u32, Refusal> {
+        self.judged(Self::uint, OUT_OF_RANGE, |value| range.contains(value))
     }
 
     /// A uInt of at most `most`.
-    pub fn uint_up_to(&mut self, most: u32) -> Result<u32, u8> {
+    pub fn uint_up_to(&mut self, most: u32) -> Result<u32, Refusal> {
         self.uint_within(0..=most)
     }
 
     /// A uInt count of 1 to `most`.
-    pub fn count(&mut self, most: u32) -> Result<usize, u8> {
+    pub fn count(&mut self, most: u32) -> Result<usize, Refusal> {
         Ok(self.uint_within(1..=most)? as usize)
     }
 
-    pub fn int(&mut self) -> Result<i32, u8> {
+    pub fn int(&mut self) -> Result<i32, Refusal> {
         Ok(i32::from_be_bytes(self.array()?))
     }
 
-    pub fn int64(&mut self) -> Result<i64, u8> {
+    pub fn int64(&mut self) -> Result<i64, Refusal> {
         Ok(i64::from_be_bytes(self.array()?))
     }
 
-    pub fn bool(&mut self) -> Result<bool, u8> {
-        match self.array()? {
-            [0] => Ok(false),
-            [1] => Ok(true),
-            _ => Err(DOES_NOT_FIT),
-        }
+    pub fn bool(&mut self) -> Result<bool, Refusal> {
+        self.meaning(Self::array, DOES_NOT_FIT, |[byte]| match byte {
+            0 => Some(false),
+            1 => Some(true),
+            _ => None,
+        })
     }
 
     /// A uInt length and that many bytes, as one field: a String without its
     /// range, or a DMInfo.
-    pub fn counted(&mut self) -> Result<&'a [u8], u8> {
+    #[inline]
+    pub fn counted(&mut self) -> Result<&'a [u8], Refusal> {
+        let field = self.at;
         let length = self.uint()?;
-        self.bytes(length as usize)
+        self.take(length as usize, field)
     }
 
     /// A String of 0 to 4,096 bytes.
-    pub fn string(&mut self) -> Result<&'a [u8], u8> {
-        let string = self.counted()?;
-        if string.len() > MAX_STRING {
-            return Err(OUT_OF_RANGE);
-        }
-        Ok(string)
+    #[inline]
+    pub fn string(&mut self) -> Result<&'a [u8], Refusal> {
+        self.judged(Self::counted, OUT_OF_RANGE, |string| string.len() <= MAX_STRING)
     }
 
     /// A String with an expected value; its length has no range.
-    pub fn expect_name(&mut self, expected: &[u8]) -> Result<(), u8> {
-        if self.counted()? != expected {
-            return Err(WRONG_NAME);
-        }
-        Ok(())
+    #[inline]
+    pub fn expect_name(&mut self, expected: &[u8]) -> Result<(), Refusal> {
+        self.judged(Self::counted, WRONG_NAME, |name| *name == expected).map(drop)
     }
 
-    pub fn expect_version(&mut self, expected: u32) -> Result<(), u8> {
-        if self.uint()? != expected {
-            return Err(WRONG_VERSION);
-        }
-        Ok(())
+    /// One of the listed versions.
+    #[inline]
+    fn version(&mut self, listed: &[u32]) -> Result<u32, Refusal> {
+        self.judged(Self::uint, WRONG_VERSION, |version| listed.contains(version))
+    }
+
+    pub fn expect_version(&mut self, expected: u32) -> Result<(), Refusal> {
+        self.version(&[expected]).map(drop)
     }
 
     /// The mark before an outermost object.
-    pub fn expect_mark(&mut self) -> Result<(), u8> {
-        if self.array()? != [0xBE; 4] {
-            return Err(WRONG_NAME);
-        }
-        Ok(())
+    pub fn expect_mark(&mut self) -> Result<(), Refusal> {
+        self.judged(Self::array, WRONG_NAME, |mark| *mark == [0xBE; 4]).map(drop)
     }
 
     /// An object's header, read against its container: length, name, version,
     /// then the object's end against the container, then its length against
-    /// the header's own size. Gives the version and a reader of the object's
-    /// fields; this reader moves on past the object.
-    pub fn object(&mut self, name: &[u8], versions: &[u32]) -> Result<(u32, Reader<'a>), u8> {
-        let container = self.rest;
+    /// the header's own size; these two blame the header. Gives the version
+    /// and a reader of the object's fields; this reader moves on past the
+    /// object.
+    pub fn object(&mut self, name: &[u8], versions: &[u32]) -> Result<(u32, Reader<'a>), Refusal> {
+        let (container, header) = (self.rest, self.at);
         let length = self.uint()? as usize;
         self.expect_name(name)?;
-        let version = self.uint()?;
-        if !versions.contains(&version) {
-            return Err(WRONG_VERSION);
-        }
-        let (object, rest) = container.split_at_checked(length).ok_or(ENDS_EARLY)?;
-        let header = container.len() - self.rest.len();
-        let fields = object.get(header..).ok_or(WRONG_LENGTH)?;
+        let version = self.version(versions)?;
+        let (object, rest) =
+            container.split_at_checked(length).ok_or(Refusal::at(ENDS_EARLY, header))?;
+        let fields = object.get(self.at - header..).ok_or(Refusal::at(WRONG_LENGTH, header))?;
+        let fields = Reader { rest: fields, at: self.at, header };
         self.rest = rest;
-        Ok((version, Reader::new(fields)))
+        self.at = header + length;
+        Ok((version, fields))
     }
 
     /// A Block of `count` numbers of 4 bytes; another count disagrees, before
     /// the numbers are looked at.
-    pub fn block(&mut self, count: u64) -> Result<Numbers<'a>, u8> {
+    pub fn block(&mut self, count: u64) -> Result<Numbers<'a>, Refusal> {
         let (_, mut fields) = self.object(b"Block", &[1])?;
-        let stated = fields.uint()?;
-        if u64::from(stated) != count {
-            return Err(DISAGREES);
-        }
-        let numbers = fields.bytes(4 * stated as usize)?;
+        let stated = fields.judged(Self::uint, DISAGREES, |stated| u64::from(*stated) == count)?;
+        let numbers = fields.run(stated as usize, 4)?;
         fields.finish()?;
         Ok(numbers.as_chunks().0)
     }
 
     /// A TableRecord is passed over by its length.
-    pub fn pass_table_record(&mut self) -> Result<(), u8> {
+    pub fn pass_table_record(&mut self) -> Result<(), Refusal> {
         self.object(b"TableRecord", &[1])?;
         Ok(())
     }
 
-    /// After an object's last field: none of its bytes may be left over.
-    pub fn finish(self) -> Result<(), u8> {
+    /// After an object's last field: bytes that are left over blame its header.
+    pub fn finish(self) -> Result<(), Refusal> {
+        self.none_left(self.header)
+    }
+
+    /// After a text's last object: bytes that are left over are blamed
+    /// themselves.
+    pub fn finish_text(self) -> Result<(), Refusal> {
+        self.none_left(self.at)
+    }
+
+    fn none_left(&self, blamed: usize) -> Result<(), Refusal> {
         if !self.rest.is_empty() {
-            return Err(WRONG_LENGTH);
+            return Err(Refusal::at(WRONG_LENGTH, blamed));
         }
         Ok(())
     }

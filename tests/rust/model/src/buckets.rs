@@ -3,7 +3,7 @@
 //! (RULES.md 5 and 6; Note 260, sections 3.4.2 and 3.4.3).
 
 use crate::aipsio::Reader;
-use crate::refusal::{DISAGREES, ENDS_EARLY, WRONG_CHAIN, WRONG_MAP};
+use crate::refusal::{DISAGREES, ENDS_EARLY, Refusal, WRONG_CHAIN, WRONG_MAP};
 use std::ops::RangeInclusive;
 
 /// The header stands in the file's first bytes; the buckets follow them.
@@ -29,13 +29,11 @@ pub fn header<'a>(
     name: &[u8],
     version: u32,
     big_endian: bool,
-) -> Result<(HeaderStart, Reader<'a>), u8> {
-    let mut container = Reader::new(file.get(..HEADER_ROOM).unwrap_or(file));
+) -> Result<(HeaderStart, Reader<'a>), Refusal> {
+    let mut container = Reader::new(file.get(..HEADER_ROOM).unwrap_or(file), 0);
     container.expect_mark()?;
     let (_, mut fields) = container.object(name, &[version])?;
-    if fields.bool()? != big_endian {
-        return Err(DISAGREES);
-    }
+    fields.judged(Reader::bool, DISAGREES, |is_big| *is_big == big_endian)?;
     let bucket_size = fields.uint_within(BUCKET_SIZE)?;
     let bucket_count = fields.uint_up_to(MAX_BUCKETS)?;
     fields.uint()?; // cache size
@@ -51,11 +49,12 @@ pub struct Buckets<'a> {
 }
 
 impl<'a> Buckets<'a> {
-    pub fn new(file: &'a [u8], start: HeaderStart) -> Result<Self, u8> {
+    /// A file that is too short for them is blamed at its end.
+    pub fn new(file: &'a [u8], start: HeaderStart) -> Result<Self, Refusal> {
         let size = start.bucket_size as usize;
         let count = start.bucket_count as usize;
         if file.len() < HEADER_ROOM + count * size {
-            return Err(ENDS_EARLY);
+            return Err(Refusal::at(ENDS_EARLY, file.len()));
         }
         Ok(Self { file, size, count })
     }
@@ -73,9 +72,13 @@ impl<'a> Buckets<'a> {
         &self.file[self.start(bucket)..][..self.size]
     }
 
-    /// The bytes after the last bucket.
-    pub fn after(&self) -> &'a [u8] {
-        &self.file[self.start(self.count)..]
+    pub fn reader(&self, bucket: usize) -> Reader<'a> {
+        Reader::new(&self.file[..self.start(bucket + 1)], self.start(bucket))
+    }
+
+    /// A reader of the bytes after the last bucket.
+    pub fn after(&self) -> Reader<'a> {
+        Reader::new(self.file, self.start(self.count))
     }
 
     pub fn contain(&self, bucket: usize) -> bool {
@@ -83,7 +86,7 @@ impl<'a> Buckets<'a> {
     }
 
     /// The bucket that a link of a chain leads to.
-    pub fn linked(&self, number: i32) -> Result<usize, u8> {
+    pub fn linked(&self, number: i32) -> Result<usize, Refusal> {
         match usize::try_from(number) {
             Ok(bucket) if self.contain(bucket) => Ok(bucket),
             _ => Err(WRONG_CHAIN),
@@ -96,8 +99,8 @@ impl<'a> Buckets<'a> {
         &self,
         first: i32,
         length: u32,
-        mut next: impl FnMut(usize) -> Result<i32, u8>,
-    ) -> Result<(), u8> {
+        mut next: impl FnMut(usize) -> Result<i32, Refusal>,
+    ) -> Result<(), Refusal> {
         if length as usize > self.count {
             return Err(WRONG_CHAIN); // so many can not all be different
         }
@@ -112,17 +115,17 @@ impl<'a> Buckets<'a> {
     }
 
     /// The free list: its links are the first 4 bytes of its buckets.
-    pub fn free_list(&self, first: i32, length: u32) -> Result<BucketSet, u8> {
+    pub fn free_list(&self, first: i32, length: u32) -> Result<BucketSet, Refusal> {
         let mut free = BucketSet::default();
         self.follow(first, length, |bucket| {
             free.insert(bucket);
-            Reader::new(self.bucket(bucket)).int()
+            self.reader(bucket).int()
         })?;
         Ok(free)
     }
 
     /// Adds a bucket that the index names: in range, and not yet in the set.
-    pub fn claim(&self, claimed: &mut BucketSet, number: u32) -> Result<(), u8> {
+    pub fn claim(&self, claimed: &mut BucketSet, number: u32) -> Result<(), Refusal> {
         let bucket = number as usize;
         if !self.contain(bucket) || !claimed.insert(bucket) {
             return Err(WRONG_MAP);

@@ -4,7 +4,7 @@
 use crate::aipsio::{Numbers, Reader};
 use crate::buckets::{BucketSet, Buckets, header};
 use crate::data_type::DataType;
-use crate::refusal::{ENDS_EARLY, WRONG_MAP, WRONG_VERSION};
+use crate::refusal::{Refusal, WRONG_MAP, WRONG_VERSION};
 use crate::table::{Column, Description};
 
 /// A bucket begins with the offset of its index; the data part follows it.
@@ -23,7 +23,11 @@ pub struct IncrementalFile<'a> {
 
 impl<'a> IncrementalFile<'a> {
     /// Checks the file of a manager.
-    pub fn check(description: &Description<'_>, manager: u32, file: &'a [u8]) -> Result<Self, u8> {
+    pub fn check(
+        description: &Description<'_>,
+        manager: u32,
+        file: &'a [u8],
+    ) -> Result<Self, Refusal> {
         let big_endian = description.big_endian;
         let (start, mut fields) = header(file, b"IncrementalStMan", 5, big_endian)?;
         fields.uint()?; // unique column number
@@ -44,7 +48,7 @@ impl<'a> IncrementalFile<'a> {
 
     /// Bucket numbers are in range, all different and none is free; first rows
     /// rise from 0 to the row count.
-    fn check_index(&self, mut claimed: BucketSet, rows: u32) -> Result<(), u8> {
+    fn check_index(&self, mut claimed: BucketSet, rows: u32) -> Result<(), Refusal> {
         for number in self.numbers {
             self.buckets.claim(&mut claimed, u32::from_be_bytes(*number))?;
         }
@@ -60,44 +64,29 @@ impl<'a> IncrementalFile<'a> {
 
     /// A bucket's index: the first rows and the offsets of each column's
     /// values, of which `sizes` are judged.
-    fn check_bucket(&self, entry: usize, sizes: &[u32]) -> Result<(), u8> {
-        let bucket = self.bucket(entry);
-        let offset = BucketReader::new(bucket, self.big_endian).uint()?;
-        if offset >> 24 != 0 {
-            return Err(WRONG_VERSION); // row numbers of 64 bits
-        }
+    fn check_bucket(&self, entry: usize, sizes: &[u32]) -> Result<(), Refusal> {
+        let (offset, mut index) = self.bucket(entry)?;
         if offset < DATA_START {
             return Err(WRONG_MAP);
         }
-        let index = bucket.get(offset as usize..).ok_or(WRONG_MAP)?;
-        let mut fields = BucketReader::new(index, self.big_endian);
         let rows = self.first_row(entry + 1) - self.first_row(entry);
         for size in sizes {
-            let count = fields.uint()?;
-            if count == 0 {
-                return Err(WRONG_MAP);
-            }
-            let mut least = 0;
-            for value in 0..count {
-                let start = fields.uint()?;
-                if start < least || start >= rows || (value == 0 && start > 0) {
-                    return Err(WRONG_MAP);
-                }
-                least = start + 1;
-            }
-            for _ in 0..count {
-                let value = fields.uint()?;
-                if u64::from(value) + u64::from(*size) > u64::from(offset - DATA_START) {
-                    return Err(WRONG_MAP);
-                }
-            }
+            index.check_values(rows, *size, offset - DATA_START)?;
         }
         Ok(())
     }
 
-    /// The bucket of an entry of the index.
-    fn bucket(&self, entry: usize) -> &'a [u8] {
-        self.buckets.bucket(u32::from_be_bytes(self.numbers[entry]) as usize)
+    /// The bucket of an entry of the index: the offset of its own index, and
+    /// what stands from there on.
+    fn bucket(&self, entry: usize) -> Result<(u32, BucketReader<'a>), Refusal> {
+        let bucket = self.buckets.reader(u32::from_be_bytes(self.numbers[entry]) as usize);
+        let reader = |fields| BucketReader { fields, big_endian: self.big_endian };
+        let offset = reader(bucket.clone()).uint()?;
+        if offset >> 24 != 0 {
+            return Err(Refusal::at(WRONG_VERSION, bucket.at())); // row numbers of 64 bits
+        }
+        let index = bucket.after(offset as usize).ok_or(WRONG_MAP)?;
+        Ok((offset, reader(index)))
     }
 
     fn first_row(&self, entry: usize) -> u32 {
@@ -120,16 +109,14 @@ impl<'a> IncrementalFile<'a> {
     }
 
     /// The offset, in a bucket's data part, of the value that a row has.
-    fn value_offset(&self, entry: usize, column: usize, local_row: u32) -> Result<u32, u8> {
-        let bucket = self.bucket(entry);
-        let index_offset = BucketReader::new(bucket, self.big_endian).uint()? as usize;
-        let mut fields = BucketReader::new(&bucket[index_offset..], self.big_endian);
+    fn value_offset(&self, entry: usize, column: usize, local_row: u32) -> Result<u32, Refusal> {
+        let (_, mut index) = self.bucket(entry)?;
         for _ in 0..column {
-            fields.values()?;
+            index.values()?;
         }
-        let (starts, offsets) = fields.values()?;
-        let value = starts.partition_point(|start| fields.number(*start) <= local_row) - 1;
-        Ok(fields.number(offsets[value]))
+        let (starts, offsets) = index.values()?;
+        let value = starts.partition_point(|start| index.number(*start) <= local_row) - 1;
+        Ok(index.number(offsets[value]))
     }
 }
 
@@ -143,8 +130,7 @@ fn judged_size(column: &Column<'_>) -> u32 {
 }
 
 /// ISMIndex: the first rows and the numbers of the buckets.
-fn read_index(container: &[u8]) -> Result<(Numbers<'_>, Numbers<'_>), u8> {
-    let mut container = Reader::new(container);
+fn read_index(mut container: Reader<'_>) -> Result<(Numbers<'_>, Numbers<'_>), Refusal> {
     container.expect_mark()?;
     let (_, mut fields) = container.object(b"ISMIndex", &[1])?;
     let count = u64::from(fields.uint()?);
@@ -156,30 +142,47 @@ fn read_index(container: &[u8]) -> Result<(Numbers<'_>, Numbers<'_>), u8> {
 
 /// Reads numbers of a bucket, in the table's endianness.
 struct BucketReader<'a> {
-    rest: &'a [u8],
+    fields: Reader<'a>,
     big_endian: bool,
 }
 
 impl<'a> BucketReader<'a> {
-    fn new(bytes: &'a [u8], big_endian: bool) -> Self {
-        Self { rest: bytes, big_endian }
-    }
-
     fn number(&self, bytes: [u8; 4]) -> u32 {
         if self.big_endian { u32::from_be_bytes(bytes) } else { u32::from_le_bytes(bytes) }
     }
 
-    fn uint(&mut self) -> Result<u32, u8> {
-        let (field, rest) = self.rest.split_first_chunk().ok_or(ENDS_EARLY)?;
-        self.rest = rest;
-        Ok(self.number(*field))
+    fn uint(&mut self) -> Result<u32, Refusal> {
+        let bytes = self.fields.array()?;
+        Ok(self.number(bytes))
+    }
+
+    /// A column's values: the first row of each rises from 0 and is below
+    /// `rows`; each stands, with `size` bytes, in `data` bytes.
+    fn check_values(&mut self, rows: u32, size: u32, data: u32) -> Result<(), Refusal> {
+        let count = self.uint()?;
+        if count == 0 {
+            return Err(WRONG_MAP);
+        }
+        let mut least = 0;
+        for value in 0..count {
+            let start = self.uint()?;
+            if start < least || start >= rows || (value == 0 && start > 0) {
+                return Err(WRONG_MAP);
+            }
+            least = start + 1;
+        }
+        for _ in 0..count {
+            let offset = self.uint()?;
+            if u64::from(offset) + u64::from(size) > u64::from(data) {
+                return Err(WRONG_MAP);
+            }
+        }
+        Ok(())
     }
 
     /// A column's values: their first rows and their offsets.
-    fn values(&mut self) -> Result<(Numbers<'a>, Numbers<'a>), u8> {
+    fn values(&mut self) -> Result<(Numbers<'a>, Numbers<'a>), Refusal> {
         let count = self.uint()? as usize;
-        let (values, rest) = self.rest.split_at_checked(8 * count).ok_or(ENDS_EARLY)?;
-        self.rest = rest;
-        Ok(values.as_chunks().0.split_at(count))
+        Ok(self.fields.run(2 * count, 4)?.as_chunks().0.split_at(count))
     }
 }

@@ -2,9 +2,9 @@
 //! written from the scope document (whose rules RULES.md states) and Note 260
 //! alone.
 //!
-//! A refused question gives the refusal number of RULES.md 8.1; the numbers
-//! have names in [`refusal`]. "Note 260" is Casacore Note 260, Table System
-//! File Formats.
+//! A refused question gives a [`Refusal`]: the number of RULES.md 8.1, which has
+//! a name in [`refusal`], and the byte at which the blamed field begins.
+//! "Note 260" is Casacore Note 260, Table System File Formats.
 
 pub mod aipsio;
 mod buckets;
@@ -25,6 +25,7 @@ pub use data_type::DataType;
 pub use element_bits::element_bits;
 pub use listing::listing;
 pub use question::{Placed, Plan, check, place, place_by_plan, plan, view, view_by_plan};
+pub use refusal::Refusal;
 pub use request::answer;
 pub use table::{Column, Description, Kind, Manager, column, describe};
 

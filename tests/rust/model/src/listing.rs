@@ -13,7 +13,7 @@ pub fn listing(table: &[u8]) -> Vec<u8> {
 fn print(table: &[u8], out: &mut impl Write) -> std::io::Result<()> {
     let description = match describe(table) {
         Ok(description) => description,
-        Err(refusal) => return writeln!(out, "refused {refusal}"),
+        Err(refusal) => return writeln!(out, "{refusal}"),
     };
     writeln!(out, "rows {} columns {}", description.rows, description.columns.len())?;
     for (position, column) in description.columns.iter().enumerate() {

@@ -6,7 +6,7 @@
 
 use crate::data_type::DataType;
 use crate::incremental::IncrementalFile;
-use crate::refusal::{BOOL_VIEW, NO_ROW, NO_SUCH, STALE_PLAN};
+use crate::refusal::{BOOL_VIEW, NO_ROW, NO_SUCH, Refusal, STALE_PLAN};
 use crate::standard::StandardFile;
 use crate::table::{Column, Description, Kind, Manager, describe};
 use std::ops::Range;
@@ -78,7 +78,7 @@ pub struct Placed {
 }
 
 /// Checks the file of the manager with this sequence number; gives its kind.
-pub fn check(table: &[u8], number: u64, file: &[u8], room: &mut [u8]) -> Result<Kind, u8> {
+pub fn check(table: &[u8], number: u64, file: &[u8], room: &mut [u8]) -> Result<Kind, Refusal> {
     Ok(check_file(table, number, file, room)?.0)
 }
 
@@ -88,7 +88,7 @@ pub(crate) fn check_file(
     number: u64,
     file: &[u8],
     room: &mut [u8],
-) -> Result<(Kind, u64), u8> {
+) -> Result<(Kind, u64), Refusal> {
     zero_if_refused(room, |room| {
         let description = describe(table)?;
         let mut managers = description.managers.iter();
@@ -100,7 +100,7 @@ pub(crate) fn check_file(
 }
 
 /// The plan of the column at this position.
-pub fn plan(table: &[u8], file: &[u8], position: u64, room: &mut [u8]) -> Result<Plan, u8> {
+pub fn plan(table: &[u8], file: &[u8], position: u64, room: &mut [u8]) -> Result<Plan, Refusal> {
     ask(table, file, position, room, |asked| Ok(asked.plan()))
 }
 
@@ -111,7 +111,7 @@ pub fn place(
     row: u64,
     position: u64,
     room: &mut [u8],
-) -> Result<Placed, u8> {
+) -> Result<Placed, Refusal> {
     ask(table, file, position, room, |asked| asked.place(row))
 }
 
@@ -122,7 +122,7 @@ pub fn place_by_plan(
     row: u64,
     plan: &Plan,
     room: &mut [u8],
-) -> Result<Placed, u8> {
+) -> Result<Placed, Refusal> {
     ask(table, file, plan.position, room, |asked| {
         asked.expect_plan(plan)?;
         asked.place(row)
@@ -136,7 +136,7 @@ pub fn view<'a>(
     row: u64,
     position: u64,
     room: &mut [u8],
-) -> Result<&'a [u8], u8> {
+) -> Result<&'a [u8], Refusal> {
     Ok(&file[view_range(table, file, row, position, room)?])
 }
 
@@ -147,7 +147,7 @@ pub fn view_by_plan<'a>(
     row: u64,
     plan: &Plan,
     room: &mut [u8],
-) -> Result<&'a [u8], u8> {
+) -> Result<&'a [u8], Refusal> {
     Ok(&file[view_range_by_plan(table, file, row, plan, room)?])
 }
 
@@ -158,7 +158,7 @@ pub(crate) fn view_range(
     row: u64,
     position: u64,
     room: &mut [u8],
-) -> Result<Range<usize>, u8> {
+) -> Result<Range<usize>, Refusal> {
     ask(table, file, position, room, |asked| asked.view(row))
 }
 
@@ -169,7 +169,7 @@ pub(crate) fn view_range_by_plan(
     row: u64,
     plan: &Plan,
     room: &mut [u8],
-) -> Result<Range<usize>, u8> {
+) -> Result<Range<usize>, Refusal> {
     ask(table, file, plan.position, room, |asked| {
         asked.expect_plan(plan)?;
         asked.view(row)
@@ -179,8 +179,8 @@ pub(crate) fn view_range_by_plan(
 /// The room is all zero after every refusal.
 fn zero_if_refused<T>(
     room: &mut [u8],
-    question: impl FnOnce(&mut [u8]) -> Result<T, u8>,
-) -> Result<T, u8> {
+    question: impl FnOnce(&mut [u8]) -> Result<T, Refusal>,
+) -> Result<T, Refusal> {
     let answer = question(room);
     if answer.is_err() {
         room.fill(0);
@@ -195,8 +195,8 @@ fn ask<T>(
     file: &[u8],
     position: u64,
     room: &mut [u8],
-    question: impl FnOnce(&Asked<'_>) -> Result<T, u8>,
-) -> Result<T, u8> {
+    question: impl FnOnce(&Asked<'_>) -> Result<T, Refusal>,
+) -> Result<T, Refusal> {
     zero_if_refused(room, |room| {
         let description = describe(table)?;
         let index = usize::try_from(position).map_err(|_| NO_SUCH)?;
@@ -223,7 +223,7 @@ impl<'a> File<'a> {
         manager: &Manager<'_>,
         file: &'a [u8],
         room: &'a mut [u8],
-    ) -> Result<Self, u8> {
+    ) -> Result<Self, Refusal> {
         let number = manager.number;
         Ok(match manager.kind {
             Kind::Standard => Self::Standard(StandardFile::check(description, number, file, room)?),
@@ -280,14 +280,14 @@ impl Asked<'_> {
         }
     }
 
-    fn expect_plan(&self, plan: &Plan) -> Result<(), u8> {
+    fn expect_plan(&self, plan: &Plan) -> Result<(), Refusal> {
         if *plan != self.plan() {
             return Err(STALE_PLAN);
         }
         Ok(())
     }
 
-    fn place(&self, row: u64) -> Result<Placed, u8> {
+    fn place(&self, row: u64) -> Result<Placed, Refusal> {
         if row >= self.description.rows.into() {
             return Err(NO_ROW);
         }
@@ -307,7 +307,7 @@ impl Asked<'_> {
         Ok(Placed { first_bit, bit_count: self.cell_bits(), looks, entries })
     }
 
-    fn view(&self, row: u64) -> Result<Range<usize>, u8> {
+    fn view(&self, row: u64) -> Result<Range<usize>, Refusal> {
         let Placed { first_bit, bit_count, .. } = self.place(row)?;
         if matches!(self.file, File::Standard(_)) && self.column.data_type == DataType::Bool {
             return Err(BOOL_VIEW);

@@ -2,6 +2,7 @@
 //! space, bytes in lower-case hex, numbers in decimal digits.
 
 use crate::question::{self, Placed, Plan};
+use crate::refusal::Refusal;
 use crate::table::{Description, Kind, column, describe};
 use crate::{element_bits, hex, listing};
 use std::fmt::Write;
@@ -118,14 +119,14 @@ fn range_text(range: Range<usize>) -> String {
 }
 
 /// An answer, then the room's bytes.
-fn room_line(answer: Result<String, u8>, room: &[u8]) -> String {
+fn room_line(answer: Result<String, Refusal>, room: &[u8]) -> String {
     let mut line = answer.map_or_else(refused, |answer| format!("ok {answer}"));
     line.push(' ');
     hex::encode_to(&mut line, room);
     line
 }
 
-fn describe_line(answer: Result<Description<'_>, u8>) -> String {
+fn describe_line(answer: Result<Description<'_>, Refusal>) -> String {
     let description = match answer {
         Ok(description) => description,
         Err(refusal) => return refused(refusal),
@@ -157,10 +158,10 @@ fn write_description(line: &mut String, description: &Description<'_>) -> std::f
     Ok(())
 }
 
-fn column_line(answer: Result<usize, u8>) -> String {
+fn column_line(answer: Result<usize, Refusal>) -> String {
     answer.map_or_else(refused, |position| format!("ok {position}"))
 }
 
-fn refused(refusal: u8) -> String {
-    format!("refused {refusal}")
+fn refused(refusal: Refusal) -> String {
+    refusal.to_string()
 }

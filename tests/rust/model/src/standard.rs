@@ -4,7 +4,7 @@
 use crate::aipsio::{Numbers, Reader};
 use crate::buckets::{BucketSet, Buckets, HeaderStart, header};
 use crate::looks;
-use crate::refusal::{OUT_OF_RANGE, SHORT_ROOM, WRONG_CHAIN, WRONG_MAP};
+use crate::refusal::{OUT_OF_RANGE, Refusal, SHORT_ROOM, WRONG_CHAIN, WRONG_MAP};
 use crate::table::{Column, Description};
 
 // RULES.md 8.2, Ranges.
@@ -60,7 +60,7 @@ impl<'a> StandardFile<'a> {
         manager: u32,
         file: &'a [u8],
         room: &'a mut [u8],
-    ) -> Result<Self, u8> {
+    ) -> Result<Self, Refusal> {
         let header = read_header(file, description.big_endian)?;
         let buckets = Buckets::new(file, header.start)?;
         let (text, rest) = room.split_at_mut_checked(header.index_length).ok_or(SHORT_ROOM)?;
@@ -76,7 +76,7 @@ impl<'a> StandardFile<'a> {
     }
 
     /// Data, index and free buckets are in range and all different.
-    fn check_buckets(&self, mut claimed: BucketSet, free: &BucketSet) -> Result<(), u8> {
+    fn check_buckets(&self, mut claimed: BucketSet, free: &BucketSet) -> Result<(), Refusal> {
         if claimed.meets(free) {
             return Err(WRONG_MAP);
         }
@@ -89,7 +89,7 @@ impl<'a> StandardFile<'a> {
 
     /// The last rows of each set rise to the table's last row, at most rows
     /// per bucket at a time.
-    fn check_rows(&self, rows: u32) -> Result<(), u8> {
+    fn check_rows(&self, rows: u32) -> Result<(), Refusal> {
         for index in &self.indices {
             let mut row = 0; // the next entry's first row
             for last in index.last_rows {
@@ -108,7 +108,10 @@ impl<'a> StandardFile<'a> {
 
     /// The manager's columns are in sets that are there, each set has as many
     /// as it says, and their extents lie in the bucket and do not meet.
-    fn check_columns<'c>(&self, columns: impl Iterator<Item = &'c Column<'c>>) -> Result<(), u8> {
+    fn check_columns<'c>(
+        &self,
+        columns: impl Iterator<Item = &'c Column<'c>>,
+    ) -> Result<(), Refusal> {
         let mut counts = [0; MAX_INDICES as usize];
         let mut extents = Vec::new();
         for column in columns {
@@ -167,16 +170,14 @@ impl<'a> StandardFile<'a> {
     }
 }
 
-fn read_header(file: &[u8], big_endian: bool) -> Result<Header, u8> {
+fn read_header(file: &[u8], big_endian: bool) -> Result<Header, Refusal> {
     let (start, mut fields) = header(file, b"StandardStMan", 3, big_endian)?;
     let free_count = fields.uint()?;
     let first_free = fields.int()?;
     let index_buckets = fields.uint()?;
     let first_index_bucket = fields.int()?;
-    let index_offset = fields.uint()?;
-    if (1..LINKS as u32).contains(&index_offset) {
-        return Err(OUT_OF_RANGE);
-    }
+    let is_right = |offset: &u32| !(1..LINKS as u32).contains(offset);
+    let index_offset = fields.judged(Reader::uint, OUT_OF_RANGE, is_right)?;
     fields.int()?; // last string heap bucket
     let index_length = fields.count(MAX_INDEX_LENGTH)?;
     let indices = fields.count(MAX_INDICES)?;
@@ -194,7 +195,11 @@ fn read_header(file: &[u8], big_endian: bool) -> Result<Header, u8> {
 }
 
 /// Gathers the index text; gives the index buckets.
-fn read_text(buckets: &Buckets<'_>, header: &Header, text: &mut [u8]) -> Result<BucketSet, u8> {
+fn read_text(
+    buckets: &Buckets<'_>,
+    header: &Header,
+    text: &mut [u8],
+) -> Result<BucketSet, Refusal> {
     let mut index_buckets = BucketSet::default();
     if header.index_offset > 0 {
         // The text is within one bucket, whose other bytes are not read.
@@ -211,12 +216,12 @@ fn read_text(buckets: &Buckets<'_>, header: &Header, text: &mut [u8]) -> Result<
     let mut missing = text;
     buckets.follow(header.first_index_bucket, header.index_buckets, |bucket| {
         index_buckets.insert(bucket);
-        let (links, part) = buckets.bucket(bucket).split_at(LINKS);
-        let mut links = Reader::new(links);
+        let mut links = buckets.reader(bucket);
         let next = links.int()?;
         if links.int()? != next {
             return Err(WRONG_CHAIN);
         }
+        let part = &buckets.bucket(bucket)[LINKS..];
         let length = missing.len().min(part.len());
         let (filled, rest) = std::mem::take(&mut missing).split_at_mut(length);
         filled.copy_from_slice(&part[..length]);
@@ -229,18 +234,18 @@ fn read_text(buckets: &Buckets<'_>, header: &Header, text: &mut [u8]) -> Result<
     Ok(index_buckets)
 }
 
-/// The index text: one SSMIndex for each set.
-fn read_indices(text: &[u8], count: usize) -> Result<Vec<Index<'_>>, u8> {
-    let mut text = Reader::new(text);
+/// The index text: one SSMIndex for each set. Its bytes count from its start.
+fn read_indices(text: &[u8], count: usize) -> Result<Vec<Index<'_>>, Refusal> {
+    let mut text = Reader::new(text, 0);
     let mut indices = Vec::with_capacity(count);
     for _ in 0..count {
         indices.push(read_index(&mut text)?);
     }
-    text.finish()?;
+    text.finish_text()?;
     Ok(indices)
 }
 
-fn read_index<'a>(text: &mut Reader<'a>) -> Result<Index<'a>, u8> {
+fn read_index<'a>(text: &mut Reader<'a>) -> Result<Index<'a>, Refusal> {
     text.expect_mark()?;
     let (_, mut fields) = text.object(b"SSMIndex", &[1])?;
     let entries = fields.uint()?;
@@ -253,12 +258,13 @@ fn read_index<'a>(text: &mut Reader<'a>) -> Result<Index<'a>, u8> {
     Ok(Index { rows_per_bucket, columns, last_rows, buckets })
 }
 
-/// The free-space map, whose contents are not judged.
-fn pass_free_space(container: &mut Reader<'_>) -> Result<(), u8> {
+/// The free-space map, whose contents are not judged. A key and a value are a
+/// field each.
+fn pass_free_space(container: &mut Reader<'_>) -> Result<(), Refusal> {
     let (_, mut fields) = container.object(b"SimpleOrderedMap", &[1])?;
     fields.int()?; // default value
     let pairs = fields.uint()? as usize;
     fields.uint()?; // increment
-    fields.bytes(8 * pairs)?;
+    fields.run(2 * pairs, 4)?;
     fields.finish()
 }

@@ -3,16 +3,19 @@
 
 use crate::aipsio::Reader;
 use crate::data_type::DataType;
-use crate::refusal::{DISAGREES, DOES_NOT_FIT, NO_SUCH, OUT_OF_RANGE, WRONG_LENGTH, WRONG_VERSION};
+use crate::refusal::{
+    DISAGREES, DOES_NOT_FIT, NO_SUCH, OUT_OF_RANGE, Refusal, WRONG_LENGTH, WRONG_VERSION,
+};
+use std::ops::RangeInclusive;
 
 // RULES.md 8.2, Ranges.
 const MAX_FILE: usize = 65_536;
 const MAX_ROWS: u32 = 2_147_483_647;
 const MAX_COLUMNS: u32 = 64;
 const MAX_MANAGERS: u32 = 16;
-const MAX_COLUMN_NAME: usize = 64;
+const COLUMN_NAME: RangeInclusive<usize> = 1..=64;
 const MAX_DIMENSIONS: u32 = 8;
-const MAX_ELEMENTS: u32 = 1_048_576;
+const ELEMENTS: RangeInclusive<i64> = 1..=1_048_576;
 const MAX_STRING_MAXIMUM: u32 = 65_536;
 
 // Column options (Note 260, 3.1.1); 2, undefined values, has no effect.
@@ -84,19 +87,19 @@ impl Kind {
 }
 
 /// The description of a table, from the bytes of `table.dat`.
-pub fn describe(table: &[u8]) -> Result<Description<'_>, u8> {
+pub fn describe(table: &[u8]) -> Result<Description<'_>, Refusal> {
     if table.len() > MAX_FILE {
-        return Err(OUT_OF_RANGE);
+        return Err(Refusal::at(OUT_OF_RANGE, MAX_FILE));
     }
-    let mut file = Reader::new(table);
+    let mut file = Reader::new(table, 0);
     file.expect_mark()?;
     let (_, mut fields) = file.object(b"Table", &[2])?;
     let rows = fields.uint_up_to(MAX_ROWS)?;
-    let big_endian = match fields.uint()? {
-        0 => false,
-        1 => true,
-        _ => return Err(DOES_NOT_FIT),
-    };
+    let big_endian = fields.meaning(Reader::uint, DOES_NOT_FIT, |number| match number {
+        0 => Some(false),
+        1 => Some(true),
+        _ => None,
+    })?;
     fields.expect_name(b"PlainTable")?;
     let mut columns = table_desc(&mut fields)?;
     let managers = column_set(&mut fields, rows, &mut columns)?;
@@ -105,12 +108,12 @@ pub fn describe(table: &[u8]) -> Result<Description<'_>, u8> {
 }
 
 /// The position of the column with this name, from 0 in stored order.
-pub fn column(table: &[u8], name: &[u8]) -> Result<usize, u8> {
+pub fn column(table: &[u8], name: &[u8]) -> Result<usize, Refusal> {
     describe(table)?.columns.iter().position(|column| column.name == name).ok_or(NO_SUCH)
 }
 
 /// TableDesc: the columns, not yet bound to a manager.
-fn table_desc<'a>(container: &mut Reader<'a>) -> Result<Vec<Column<'a>>, u8> {
+fn table_desc<'a>(container: &mut Reader<'a>) -> Result<Vec<Column<'a>>, Refusal> {
     let (_, mut fields) = container.object(b"TableDesc", &[2])?;
     fields.string()?; // name
     fields.string()?; // version info
@@ -128,44 +131,18 @@ fn table_desc<'a>(container: &mut Reader<'a>) -> Result<Vec<Column<'a>>, u8> {
 }
 
 /// A ColumnDesc, after the `earlier` ones.
-fn column_desc<'a>(fields: &mut Reader<'a>, earlier: &[Column<'a>]) -> Result<Column<'a>, u8> {
+fn column_desc<'a>(fields: &mut Reader<'a>, earlier: &[Column<'a>]) -> Result<Column<'a>, Refusal> {
     fields.expect_version(1)?; // ColumnDesc
-    let (is_array, data_type) = column_type(fields.string()?).ok_or(DOES_NOT_FIT)?;
+    let (is_array, data_type) = fields.meaning(Reader::string, DOES_NOT_FIT, column_type)?;
     fields.expect_version(1)?; // BaseColumnDesc
-    let name = fields.counted()?;
-    if name.is_empty() || name.len() > MAX_COLUMN_NAME {
-        return Err(OUT_OF_RANGE);
-    }
-    if earlier.iter().any(|column| column.name == name) {
-        return Err(DISAGREES);
-    }
+    let name = column_name(fields, earlier)?;
     fields.string()?; // comment
     fields.string()?; // default manager type
     fields.string()?; // default manager group
-    if fields.int()? != data_type.number() {
-        return Err(DOES_NOT_FIT);
-    }
-    let options = fields.int()?;
-    if !(0..=7).contains(&options) {
-        return Err(DOES_NOT_FIT);
-    }
-    // Options have no effect on scalars.
-    let is_fixed = is_array && options & FIXED_SHAPE != 0;
-    let is_direct = is_array && options & DIRECT != 0;
-    if is_direct && !is_fixed {
-        return Err(DOES_NOT_FIT);
-    }
-    let dimensionality = fields.int()?;
-    let elements = if is_fixed {
-        fixed_shape(fields, dimensionality)?
-    } else if is_array {
-        any_shape(fields)?;
-        0
-    } else if matches!(dimensionality, 0 | -1) {
-        1
-    } else {
-        return Err(DOES_NOT_FIT);
-    };
+    fields.judged(Reader::int, DOES_NOT_FIT, |number| *number == data_type.number())?;
+    let options =
+        fields.judged(Reader::int, DOES_NOT_FIT, |options| options_fit(*options, is_array))?;
+    let elements = elements(fields, options, is_array)?;
     let string_maximum = fields.uint_up_to(MAX_STRING_MAXIMUM)?;
     fields.pass_table_record()?; // keywords
     fields.expect_version(1)?; // ScalarColumnDesc or ArrayColumnDesc
@@ -175,7 +152,7 @@ fn column_desc<'a>(fields: &mut Reader<'a>, earlier: &[Column<'a>]) -> Result<Co
         default_value(fields, data_type)?;
     }
     let cell_bits = match data_type.element_bits() {
-        _ if is_array && !is_direct => 64,
+        _ if is_array && options & DIRECT == 0 => 64,
         Some(bits) => elements * bits,
         None if !is_array && string_maximum > 0 => string_maximum * 8,
         None => 96,
@@ -209,8 +186,38 @@ fn column_type(string: &[u8]) -> Option<(bool, DataType)> {
     Some((is_array, DataType::from_name(name)?))
 }
 
-/// The default value of a scalar column, stored by its type: a Bool in a byte.
-fn default_value(fields: &mut Reader<'_>, data_type: DataType) -> Result<(), u8> {
+/// A column's name, which none of the `earlier` ones has.
+fn column_name<'a>(fields: &mut Reader<'a>, earlier: &[Column<'a>]) -> Result<&'a [u8], Refusal> {
+    let in_range = |fields: &mut Reader<'a>| {
+        fields.judged(Reader::counted, OUT_OF_RANGE, |name| COLUMN_NAME.contains(&name.len()))
+    };
+    let is_new = |name: &&[u8]| earlier.iter().all(|column| column.name != *name);
+    fields.judged(in_range, DISAGREES, is_new)
+}
+
+/// Options have no effect on scalars; a direct array has a fixed shape.
+fn options_fit(options: i32, is_array: bool) -> bool {
+    let is_direct = is_array && options & DIRECT != 0;
+    (0..=7).contains(&options) && (!is_direct || options & FIXED_SHAPE != 0)
+}
+
+/// The dimensionality, and an array's IPosition: the element count.
+fn elements(fields: &mut Reader<'_>, options: i32, is_array: bool) -> Result<u32, Refusal> {
+    if !is_array {
+        fields.judged(Reader::int, DOES_NOT_FIT, |number| matches!(number, 0 | -1))?;
+        return Ok(1);
+    }
+    let dimensionality = fields.int()?;
+    if options & FIXED_SHAPE != 0 {
+        return fixed_shape(fields, dimensionality);
+    }
+    any_shape(fields)?;
+    Ok(0)
+}
+
+/// The default value of a scalar column, stored by its type: a Bool in a byte,
+/// a Complex as one field.
+fn default_value(fields: &mut Reader<'_>, data_type: DataType) -> Result<(), Refusal> {
     match data_type.element_bits() {
         None => fields.string().map(drop),
         Some(1) => fields.bool().map(drop),
@@ -219,34 +226,34 @@ fn default_value(fields: &mut Reader<'_>, data_type: DataType) -> Result<(), u8>
 }
 
 /// The IPosition of a fixed shape: its product.
-fn fixed_shape(container: &mut Reader<'_>, dimensionality: i32) -> Result<u32, u8> {
+fn fixed_shape(container: &mut Reader<'_>, dimensionality: i32) -> Result<u32, Refusal> {
     let (version, mut fields) = container.object(b"IPosition", &[1, 2])?;
-    let count = fields.count(MAX_DIMENSIONS)?;
-    if dimensionality != count as i32 {
-        return Err(DOES_NOT_FIT);
-    }
-    let elements = 1..=i64::from(MAX_ELEMENTS);
+    let in_range = |fields: &mut Reader<'_>| fields.count(MAX_DIMENSIONS);
+    let count = fields.judged(in_range, DOES_NOT_FIT, |count| *count as i32 == dimensionality)?;
     let mut product = 1;
     for _ in 0..count {
-        let axis = if version == 1 { fields.int()?.into() } else { fields.int64()? };
-        if !elements.contains(&axis) {
-            return Err(OUT_OF_RANGE);
-        }
-        product *= axis;
-        if !elements.contains(&product) {
-            return Err(OUT_OF_RANGE);
-        }
+        let axis = |fields: &mut Reader<'_>| match version {
+            1 => fields.int().map(i64::from),
+            _ => fields.int64(),
+        };
+        let product_with = |axis: i64| in_elements(product * in_elements(axis)?);
+        product = fields.meaning(axis, OUT_OF_RANGE, product_with)?;
     }
     fields.finish()?;
     Ok(product as u32)
 }
 
+/// An axis or a product of axes, if it is in range.
+fn in_elements(number: i64) -> Option<i64> {
+    Some(number).filter(|number| ELEMENTS.contains(number))
+}
+
 /// Another IPosition: its count and axes are read and not judged.
-fn any_shape(container: &mut Reader<'_>) -> Result<(), u8> {
+fn any_shape(container: &mut Reader<'_>) -> Result<(), Refusal> {
     let (version, mut fields) = container.object(b"IPosition", &[1, 2])?;
     let count = fields.uint()? as usize;
     let width = if version == 1 { 4 } else { 8 };
-    fields.bytes(count * width)?;
+    fields.run(count, width)?;
     fields.finish()
 }
 
@@ -255,22 +262,18 @@ fn column_set<'a>(
     fields: &mut Reader<'a>,
     rows: u32,
     columns: &mut [Column<'a>],
-) -> Result<Vec<Manager<'a>>, u8> {
-    if fields.int()? != -2 {
-        return Err(WRONG_VERSION);
-    }
-    if fields.uint_up_to(MAX_ROWS)? != rows {
-        return Err(DISAGREES);
-    }
+) -> Result<Vec<Manager<'a>>, Refusal> {
+    fields.judged(Reader::int, WRONG_VERSION, |version| *version == -2)?;
+    let in_range = |fields: &mut Reader<'a>| fields.uint_up_to(MAX_ROWS);
+    fields.judged(in_range, DISAGREES, |stated| *stated == rows)?;
     let highest = fields.uint()?;
     let count = fields.count(MAX_MANAGERS)?;
     let mut managers: Vec<Manager> = Vec::with_capacity(count);
     for _ in 0..count {
         let name = fields.string()?;
-        let number = fields.uint()?;
-        if number > highest || managers.iter().any(|manager| manager.number == number) {
-            return Err(DISAGREES);
-        }
+        let is_new = |number: &u32| managers.iter().all(|manager| manager.number != *number);
+        let fits = |number: &u32| *number <= highest && is_new(number);
+        let number = fields.judged(Reader::uint, DISAGREES, fits)?;
         managers.push(Manager { number, name, kind: Kind::of(name) });
     }
     for column in columns.iter_mut() {
@@ -287,14 +290,12 @@ fn column_info(
     fields: &mut Reader<'_>,
     managers: &[Manager<'_>],
     column: &mut Column<'_>,
-) -> Result<(), u8> {
+) -> Result<(), Refusal> {
     fields.expect_version(2)?;
     fields.string()?; // original column name
     fields.expect_version(1)?; // derived column info
-    column.manager = fields.uint()?;
-    if managers.iter().all(|manager| manager.number != column.manager) {
-        return Err(DISAGREES);
-    }
+    let is_known = |number: &u32| managers.iter().any(|manager| manager.number == *number);
+    column.manager = fields.judged(Reader::uint, DISAGREES, is_known)?;
     if column.is_array && fields.bool()? {
         any_shape(fields)?;
     }
@@ -302,20 +303,18 @@ fn column_info(
 }
 
 /// DMInfo: for the two kinds, the set numbers of the columns bound to the
-/// manager, then their offsets.
+/// manager, then their offsets. A wrong length blames its length field, with
+/// which it begins.
 fn manager_info(
     fields: &mut Reader<'_>,
     manager: &Manager<'_>,
     columns: &mut [Column<'_>],
-) -> Result<(), u8> {
-    let info = fields.counted()?;
+) -> Result<(), Refusal> {
     if manager.kind == Kind::Other {
-        return Ok(());
+        return fields.counted().map(drop);
     }
     let bound = columns.iter().filter(|column| column.manager == manager.number).count();
-    if info.len() != 8 * bound {
-        return Err(WRONG_LENGTH);
-    }
+    let info = fields.judged(Reader::counted, WRONG_LENGTH, |info| info.len() == 8 * bound)?;
     let (sets, offsets) = info.as_chunks().0.split_at(bound);
     let columns = columns.iter_mut().filter(|column| column.manager == manager.number);
     for (column, (set, offset)) in columns.zip(sets.iter().zip(offsets)) {

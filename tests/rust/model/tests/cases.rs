@@ -1,99 +1,27 @@
 //! The small file of RULES.md 11, written here byte by byte, and its cases A to L.
 
 mod common;
+mod standard;
 
-use common::{Column, FLAG, SCAN, TIME, object, small_table, table, uint, uints};
+use common::{Column, FLAG, SCAN, TIME, refused, small_table, table, uint, uints};
 use model::{
-    Kind, Placed, Plan, answer, check, hex, numbers, place, place_by_plan, plan, view, view_by_plan,
+    Kind, Placed, Plan, Refusal, answer, check, hex, numbers, place, place_by_plan, plan, view,
+    view_by_plan,
 };
-
-/// The header's numbers after its Bool.
-#[derive(Clone, Copy)]
-struct Header {
-    free_buckets: u32,
-    first_free: i32,
-    index_buckets: u32,
-    first_index: i32,
-    index_offset: u32,
-    index_length: u32,
-}
-
-const HEADER: Header = Header {
-    free_buckets: 0,
-    first_free: -1,
-    index_buckets: 3,
-    first_index: 1,
-    index_offset: 0,
-    index_length: 134,
-};
-
-fn header(header: Header) -> Vec<u8> {
-    let numbers = [
-        64, // bucket size
-        5,  // buckets
-        1,  // cache size
-        header.free_buckets,
-        header.first_free as u32,
-        header.index_buckets,
-        header.first_index as u32,
-        header.index_offset,
-        u32::MAX, // no string heap
-        header.index_length,
-        1, // indices
-    ];
-    [vec![0xBE; 4], object("StandardStMan", 3, &[vec![1], uints(&numbers)])].concat()
-}
-
-/// The index text of one set.
-fn index_text(columns: u32, last_rows: &[u32], buckets: &[u32]) -> Vec<u8> {
-    let block = |numbers: &[u32]| object("Block", 1, &[uint(numbers.len() as u32), uints(numbers)]);
-    let fields = [
-        uint(last_rows.len() as u32),
-        uint(4), // rows per bucket
-        uint(columns),
-        object("SimpleOrderedMap", 1, &[uints(&[0, 0, 1])]),
-        block(last_rows),
-        block(buckets),
-    ];
-    [vec![0xBE; 4], object("SSMIndex", 1, &fields)].concat()
-}
-
-/// Five buckets of 64 bytes; the text is in 1, 3 and 4, with 56 bytes each.
-fn file_of(header: Vec<u8>, text: &[u8]) -> Vec<u8> {
-    let mut file = header;
-    file.resize(832, 0x77);
-    let links = [(1, 3), (3, 4), (4, -1_i32)];
-    let mut parts = text.chunks(56);
-    for (bucket, next) in links {
-        let bytes = [next.to_be_bytes(), next.to_be_bytes()].concat();
-        let part = parts.next().unwrap_or_default();
-        let start = 512 + 64 * bucket;
-        file[start..start + 8].copy_from_slice(&bytes);
-        file[start + 8..start + 8 + part.len()].copy_from_slice(part);
-    }
-    file
-}
-
-fn small_text() -> Vec<u8> {
-    index_text(3, &[3, 6], &[2, 0])
-}
-
-fn small_file() -> Vec<u8> {
-    file_of(header(HEADER), &small_text())
-}
+use standard::{HEADER, Header, file_of, header, index_text, small_file, small_text};
 
 /// A place in the small file: its set has two entries, of which the search
 /// looks at the first.
-fn placed(first_bit: u64, bit_count: u64) -> Result<Placed, u8> {
+fn placed(first_bit: u64, bit_count: u64) -> Result<Placed, Refusal> {
     Ok(Placed { first_bit, bit_count, looks: 1, entries: 2 })
 }
 
 /// The answers of these questions about the small file.
-fn small_place(row: u64, position: u64) -> Result<Placed, u8> {
+fn small_place(row: u64, position: u64) -> Result<Placed, Refusal> {
     place(&small_table(), &small_file(), row, position, &mut [0xA5; 134])
 }
 
-fn small_check(table: &[u8], file: &[u8]) -> Result<Kind, u8> {
+fn small_check(table: &[u8], file: &[u8]) -> Result<Kind, Refusal> {
     check(table, 0, file, &mut [0xA5; 200])
 }
 
@@ -143,8 +71,8 @@ fn case_d() {
 #[test]
 fn case_e() {
     // Row 7 gives 9.
-    assert_eq!(small_place(7, 2), Err(9));
-    assert_eq!(small_place(7, 1), Err(9));
+    assert_eq!(small_place(7, 2), refused(9, 0));
+    assert_eq!(small_place(7, 1), refused(9, 0));
 }
 
 #[test]
@@ -152,16 +80,16 @@ fn case_f() {
     // View of FLAG gives 14.
     let (table, file) = (small_table(), small_file());
     let mut room = [0xA5; 140];
-    assert_eq!(view(&table, &file, 5, 1, &mut room), Err(14));
+    assert_eq!(view(&table, &file, 5, 1, &mut room), refused(14, 0));
     assert_eq!(room, [0; 140]);
     // The row comes before.
-    assert_eq!(view(&table, &file, 7, 1, &mut room), Err(9));
+    assert_eq!(view(&table, &file, 7, 1, &mut room), refused(9, 0));
 }
 
 #[test]
 fn case_g() {
     // TIME at 16 gives 11.
-    assert_eq!(small_check(&with_time_at(16), &small_file()), Err(11));
+    assert_eq!(small_check(&with_time_at(16), &small_file()), refused(11, 0));
 }
 
 #[test]
@@ -169,21 +97,21 @@ fn case_h() {
     // Last rows 3, 8 with 9 rows give 11.
     let table = table(9, &[SCAN, FLAG, TIME]);
     let file = file_of(header(HEADER), &index_text(3, &[3, 8], &[2, 0]));
-    assert_eq!(small_check(&table, &file), Err(11));
+    assert_eq!(small_check(&table, &file), refused(11, 0));
 }
 
 #[test]
 fn case_i() {
     // Index number 2 for three links gives 10.
     let file = file_of(header(Header { index_buckets: 2, ..HEADER }), &small_text());
-    assert_eq!(small_check(&small_table(), &file), Err(10));
+    assert_eq!(small_check(&small_table(), &file), refused(10, 0));
 }
 
 #[test]
 fn case_j() {
     // TIME at 32 is accepted, at 33 gives 11.
     assert_eq!(small_check(&with_time_at(32), &small_file()), Ok(Kind::Standard));
-    assert_eq!(small_check(&with_time_at(33), &small_file()), Err(11));
+    assert_eq!(small_check(&with_time_at(33), &small_file()), refused(11, 0));
 }
 
 #[test]
@@ -204,22 +132,22 @@ fn case_l() {
     let bools = Placed { first_bit: 4104, bit_count: 8, looks: 0, entries: 1 };
     assert_eq!(place(&table, &file, 1, 0, &mut room), Ok(bools));
     assert_eq!(room[..], text);
-    assert_eq!(view(&table, &file, 1, 0, &mut room), Err(14));
+    assert_eq!(view(&table, &file, 1, 0, &mut room), refused(14, 0));
 }
 
 #[test]
 fn rooms() {
     let (table, file) = (small_table(), small_file());
     let mut room = [0xA5; 133];
-    assert_eq!(check(&table, 0, &file, &mut room), Err(13));
+    assert_eq!(check(&table, 0, &file, &mut room), refused(13, 0));
     assert_eq!(room, [0; 133]);
-    assert_eq!(check(&table, 0, &file, &mut []), Err(13));
+    assert_eq!(check(&table, 0, &file, &mut []), refused(13, 0));
     assert_eq!(check(&table, 0, &file, &mut [0xA5; 134]), Ok(Kind::Standard));
     // The header and the length come before, the chain after.
-    assert_eq!(check(&table, 0, &file[..831], &mut []), Err(1));
+    assert_eq!(check(&table, 0, &file[..831], &mut []), refused(1, 831));
     let broken = file_of(header(Header { first_index: -1, ..HEADER }), &small_text());
-    assert_eq!(check(&table, 0, &broken, &mut []), Err(13));
-    assert_eq!(check(&table, 0, &broken, &mut [0; 134]), Err(10));
+    assert_eq!(check(&table, 0, &broken, &mut []), refused(13, 0));
+    assert_eq!(check(&table, 0, &broken, &mut [0; 134]), refused(10, 0));
 }
 
 #[test]
@@ -238,40 +166,43 @@ fn plans() {
         bucket_size: 64,
     };
     assert_eq!(plan(&table, &file, 2, room), Ok(fresh));
-    assert_eq!(plan(&table, &file, 3, room), Err(8));
-    assert_eq!(plan(&table, &file, 1 << 32, room), Err(8));
+    assert_eq!(plan(&table, &file, 3, room), refused(8, 0));
+    assert_eq!(plan(&table, &file, 1 << 32, room), refused(8, 0));
     assert_eq!(place_by_plan(&table, &file, 5, &fresh, room), placed(8 * 537, 64));
     assert_eq!(view_by_plan(&table, &file, 5, &fresh, room), Ok(&file[537..545]));
     // A stale plan comes before the row.
     let stale = Plan { manager: 1, ..fresh };
-    assert_eq!(place_by_plan(&table, &file, 7, &stale, room), Err(12));
-    assert_eq!(place_by_plan(&table, &file, 7, &fresh, room), Err(9));
+    assert_eq!(place_by_plan(&table, &file, 7, &stale, room), refused(12, 0));
+    assert_eq!(place_by_plan(&table, &file, 7, &fresh, room), refused(9, 0));
     // No such column, or another one.
-    assert_eq!(view_by_plan(&table, &file, 5, &Plan { position: 3, ..fresh }, room), Err(8));
-    assert_eq!(view_by_plan(&table, &file, 5, &Plan { position: 1, ..fresh }, room), Err(12));
+    assert_eq!(view_by_plan(&table, &file, 5, &Plan { position: 3, ..fresh }, room), refused(8, 0));
+    assert_eq!(
+        view_by_plan(&table, &file, 5, &Plan { position: 1, ..fresh }, room),
+        refused(12, 0)
+    );
 }
 
 #[test]
 fn answers_in_numbers() {
     let (table, file) = (small_table(), small_file());
     let room = &mut [0; 134];
-    assert_eq!(numbers::check(&table, &file, 0, room), Ok([64]));
+    assert_eq!(numbers::check(&table, &file, 0, room), Ok([64, 0]));
     assert_eq!(room[..], small_text());
-    assert_eq!(numbers::check(&table, &file, 1, room), Err(8));
+    assert_eq!(numbers::check(&table, &file, 1, room), refused(8, 0));
     assert_eq!(room, &[0; 134]);
     let fresh = [2, 0, 8, 1, 64, 0, 17, 4, 64];
-    assert_eq!(numbers::plan(&table, &file, 2, room), Ok(fresh));
-    assert_eq!(numbers::place(&table, &file, 5, 2, room), Ok([8 * 537, 64, 1, 2]));
-    assert_eq!(numbers::place_planned(&table, &file, 5, fresh, room), Ok([8 * 537, 64, 1, 2]));
-    assert_eq!(numbers::view(&table, &file, 5, 2, room), Ok([537, 8]));
-    assert_eq!(numbers::view_planned(&table, &file, 5, fresh, room), Ok([537, 8]));
+    assert_eq!(numbers::plan(&table, &file, 2, room), Ok([2, 0, 8, 1, 64, 0, 17, 4, 64, 0]));
+    assert_eq!(numbers::place(&table, &file, 5, 2, room), Ok([8 * 537, 64, 1, 2, 0]));
+    assert_eq!(numbers::place_planned(&table, &file, 5, fresh, room), Ok([8 * 537, 64, 1, 2, 0]));
+    assert_eq!(numbers::view(&table, &file, 5, 2, room), Ok([537, 8, 0]));
+    assert_eq!(numbers::view_planned(&table, &file, 5, fresh, room), Ok([537, 8, 0]));
     // Each number of a plan stands for its own field.
     for number in 0..9 {
         let mut stale = fresh;
         stale[number] += 1;
         let refusal = if number == 0 { 8 } else { 12 };
-        assert_eq!(numbers::place_planned(&table, &file, 5, stale, room), Err(refusal));
-        assert_eq!(numbers::view_planned(&table, &file, 5, stale, room), Err(refusal));
+        assert_eq!(numbers::place_planned(&table, &file, 5, stale, room), refused(refusal, 0));
+        assert_eq!(numbers::view_planned(&table, &file, 5, stale, room), refused(refusal, 0));
     }
 }
 
@@ -281,27 +212,27 @@ fn misreadings() {
     // A chain that returns to an earlier bucket.
     let mut returning = file.clone();
     returning[512 + 256..][..8].copy_from_slice(&uints(&[3, 3]));
-    assert_eq!(small_check(&table, &returning), Err(10));
+    assert_eq!(small_check(&table, &returning), refused(10, 0));
     // The next number twice, equal.
     let mut unequal = file.clone();
     unequal[512 + 64 + 7] = 4;
-    assert_eq!(small_check(&table, &unequal), Err(10));
+    assert_eq!(small_check(&table, &unequal), refused(10, 0));
     // A sequence number that no manager has.
-    assert_eq!(check(&table, 1, &file, &mut [0; 134]), Err(8));
-    assert_eq!(check(&table, 1 << 32, &file, &mut [0; 134]), Err(8));
+    assert_eq!(check(&table, 1, &file, &mut [0; 134]), refused(8, 0));
+    assert_eq!(check(&table, 1 << 32, &file, &mut [0; 134]), refused(8, 0));
     // A free list where there is none, and none where there is one.
     let free = |free_buckets, first_free| {
         file_of(header(Header { free_buckets, first_free, ..HEADER }), &small_text())
     };
-    assert_eq!(small_check(&table, &free(0, 1)), Err(10));
-    assert_eq!(small_check(&table, &free(1, -1)), Err(10));
+    assert_eq!(small_check(&table, &free(0, 1)), refused(10, 0));
+    assert_eq!(small_check(&table, &free(1, -1)), refused(10, 0));
     // The last index bucket ends this list, but is not free.
-    assert_eq!(small_check(&table, &free(1, 4)), Err(11));
+    assert_eq!(small_check(&table, &free(1, 4)), refused(11, 0));
     // An index offset of 8 with a chain of three.
     let at_offset = file_of(header(Header { index_offset: 8, ..HEADER }), &small_text());
-    assert_eq!(small_check(&table, &at_offset), Err(10));
+    assert_eq!(small_check(&table, &at_offset), refused(10, 0));
     let below = file_of(header(Header { index_offset: 7, ..HEADER }), &small_text());
-    assert_eq!(small_check(&table, &below), Err(4));
+    assert_eq!(small_check(&table, &below), refused(4, 58));
 }
 
 #[test]
@@ -310,8 +241,8 @@ fn lines() {
     let file = hex::encode(&small_file());
     let text = hex::encode(&small_text());
     assert_eq!(answer(&format!("check {table} 0 {file} 135")), format!("ok SSM {text}00"));
-    assert_eq!(answer(&format!("check {table} 0 {file} 0")), "refused 13 -");
-    assert_eq!(answer(&format!("check {table} 9 {file} 2")), "refused 8 0000");
+    assert_eq!(answer(&format!("check {table} 0 {file} 0")), "refused 13 0 -");
+    assert_eq!(answer(&format!("check {table} 9 {file} 2")), "refused 8 0 0000");
     assert_eq!(
         answer(&format!("plan {table} {file} 1 134")),
         format!("ok 1,0,0,1,1,0,16,4,64 {text}")
@@ -323,15 +254,15 @@ fn lines() {
     );
     assert_eq!(
         answer(&format!("placeplan {table} {file} 5 1,0,0,1,1,0,16,4,65 1")),
-        "refused 13 00"
+        "refused 13 0 00"
     );
     assert_eq!(answer(&format!("view {table} {file} 5 2 134")), format!("ok 537 8 {text}"));
     assert_eq!(
         answer(&format!("viewplan {table} {file} 6 0,0,5,1,32,0,0,4,64 134")),
         format!("ok 520 4 {text}")
     );
-    assert_eq!(answer("check - 0 - 3"), "refused 1 000000");
-    assert_eq!(answer("check - 18446744073709551615 - 0"), "refused 1 -");
+    assert_eq!(answer("check - 0 - 3"), "refused 1 0 000000");
+    assert_eq!(answer("check - 18446744073709551615 - 0"), "refused 1 0 -");
 }
 
 #[test]
@@ -359,5 +290,5 @@ fn lines_that_are_no_requests() {
     ] {
         assert_eq!(answer(line), "bad request", "{line:?}");
     }
-    assert_eq!(answer("check - 0 - 1048576").len(), "refused 1 ".len() + 2 * 1_048_576);
+    assert_eq!(answer("check - 0 - 1048576").len(), "refused 1 0 ".len() + 2 * 1_048_576);
 }

@@ -1,16 +1,14 @@
 //! The looks and entries that Place tells, in files written here byte by byte.
 
 mod common;
+mod incremental;
 
-use common::{Column, FLAG, SCAN, TIME, object, small_table, table, table_of, uint, uints};
+use common::{Column, FLAG, SCAN, TIME, object, refused, small_table, table, uint, uints};
+use incremental::block;
 use model::{Placed, Plan, answer, hex, numbers, place, place_by_plan, plan, view};
 
 /// A set of columns: rows per bucket, columns, and the last row of each entry.
 struct Set<'a>(u32, u32, &'a [u32]);
-
-fn block(numbers: &[u32]) -> Vec<u8> {
-    object("Block", 1, &[uint(numbers.len() as u32), uints(numbers)])
-}
 
 /// The index text of these sets. The data buckets follow each other.
 fn index_text(sets: &[Set<'_>]) -> Vec<u8> {
@@ -65,7 +63,7 @@ fn told(table: &[u8], file: &[u8], row: u64, position: u64) -> (u64, u64) {
     let plan = plan(table, file, position, room).unwrap();
     assert_eq!(place_by_plan(table, file, row, &plan, room), Ok(placed));
     let Placed { first_bit, bit_count, looks, entries } = placed;
-    let in_numbers = Ok([first_bit, bit_count, looks, entries]);
+    let in_numbers = Ok([first_bit, bit_count, looks, entries, 0]);
     assert_eq!(numbers::place(table, file, row, position, room), in_numbers);
     assert_eq!(numbers::place_planned(table, file, row, plan.numbers(), room), in_numbers);
     (looks, entries)
@@ -147,11 +145,11 @@ fn in_lines() {
         // A view tells no looks, nor does a refusal.
         (format!("view {asked} 8 0 {lent}"), format!("ok {start} 8 {text}")),
         (format!("viewplan {asked} 8 {plan} {lent}"), format!("ok {start} 8 {text}")),
-        (format!("place {asked} 13 0 {lent}"), format!("refused 9 {zeros}")),
-        (format!("place {asked} 8 3 {lent}"), format!("refused 8 {zeros}")),
-        (format!("placeplan {asked} 13 {plan} {lent}"), format!("refused 9 {zeros}")),
-        (format!("placeplan {asked} 8 {plan}1 {lent}"), format!("refused 12 {zeros}")),
-        (format!("place {asked} 8 0 1"), "refused 13 00".to_string()),
+        (format!("place {asked} 13 0 {lent}"), format!("refused 9 0 {zeros}")),
+        (format!("place {asked} 8 3 {lent}"), format!("refused 8 0 {zeros}")),
+        (format!("placeplan {asked} 13 {plan} {lent}"), format!("refused 9 0 {zeros}")),
+        (format!("placeplan {asked} 8 {plan}1 {lent}"), format!("refused 12 0 {zeros}")),
+        (format!("place {asked} 8 0 1"), "refused 13 0 00".to_string()),
     ];
     for (line, expected) in answers {
         assert_eq!(answer(&line), expected);
@@ -176,24 +174,14 @@ fn the_most_entries() {
 
 #[test]
 fn incremental_places_have_none() {
-    // Two rows in bucket 0, one in bucket 1, with a value each.
-    let table = table_of("IncrementalStMan", 3, &[Column { offset: 0, ..SCAN }]);
-    let numbers = [20, 2, 1, 1, 0, u32::MAX];
-    let header = [vec![0xBE; 4], object("IncrementalStMan", 5, &[vec![1], uints(&numbers)])];
-    let mut file = header.concat();
-    file.resize(512, 0);
-    for value in [7, 8] {
-        file.extend(uints(&[8, value, 1, 0, 0]));
-    }
-    let index = [uint(2), block(&[0, 2, 3]), block(&[0, 1])];
-    file.extend([vec![0xBE; 4], object("ISMIndex", 1, &index)].concat());
+    let (table, file) = (incremental::small_table(), incremental::small_file());
     for (row, value) in [(0, 7), (1, 7), (2, 8)] {
         assert_eq!(view(&table, &file, row, 0, &mut []), Ok(&uint(value)[..]));
         assert_eq!(told(&table, &file, row, 0), (0, 0));
     }
-    assert_eq!(place(&table, &file, 3, 0, &mut []), Err(9));
+    assert_eq!(place(&table, &file, 3, 0, &mut []), refused(9, 0));
     let stale = Plan::of([0, 0, 5, 1, 32, 0, 0, 0, 21]);
-    assert_eq!(place_by_plan(&table, &file, 2, &stale, &mut []), Err(12));
+    assert_eq!(place_by_plan(&table, &file, 2, &stale, &mut []), refused(12, 0));
     let line = format!("place {} {} 2 0 1", hex::encode(&table), hex::encode(&file));
     assert_eq!(answer(&line), format!("ok {} 32 0 00", 8 * (532 + 4)));
 }

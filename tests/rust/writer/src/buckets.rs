@@ -4,7 +4,8 @@
 //! As in [`crate::table`], every field is free. Numbers of the header are
 //! computed when the file is encoded, unless others are stated.
 
-use crate::encode::{Encoder, Layout};
+use crate::encode::Encoder;
+use crate::layout::{Blame, Layout, Part};
 use crate::rng::Rng;
 use crate::table::{Column, Header, Table};
 
@@ -33,8 +34,15 @@ pub trait BucketFile: Clone {
     fn buckets(&self) -> &Buckets;
     fn buckets_mut(&mut self) -> &mut Buckets;
     /// The mark and the header's object.
-    fn header(&self) -> Vec<u8>;
+    fn header(&self) -> Layout;
     fn encode(&self) -> Vec<u8>;
+    /// A part of each run of bytes that fields stand in.
+    fn parts(&self) -> Vec<Part>;
+    /// The run of bytes that has this part, and where bytes that are blamed in
+    /// it count from.
+    fn layout_of(&self, part: Part) -> (usize, Layout);
+    /// Where a byte of that run stands in the file.
+    fn place_of(&self, part: Part, byte: usize) -> usize;
     /// Rows at both sides of each border between buckets or values.
     fn border_rows(&self) -> Vec<u32>;
     /// The index text, or the ISMIndex and the bytes after it.
@@ -52,6 +60,22 @@ pub trait BucketFile: Clone {
     /// How many last rows the search for that cell looks at, and how many
     /// entries there are to look at; none in IncrementalStMan.
     fn looks(&self, table: &Table, position: usize, row: u32) -> [u64; 2];
+
+    /// Where what a refusal blames begins.
+    fn byte(&self, blame: Blame) -> usize {
+        match blame {
+            Blame::Field(part, ..)
+            | Blame::Past(part)
+            | Blame::End(part)
+            | Blame::Torn(part, _) => {
+                let (start, layout) = self.layout_of(part);
+                start + layout.byte(blame)
+            }
+            Blame::FileEnd => self.encode().len(),
+            Blame::Nothing => 0,
+            Blame::Byte(byte) => byte,
+        }
+    }
 }
 
 /// A Block of numbers.
@@ -68,11 +92,11 @@ impl Block {
         Self { header: Header::new("Block", 1), count: None, elements }
     }
 
-    pub fn encode(&self, out: &mut Encoder) {
-        out.object(&self.header, |out| {
-            out.uint(self.count.unwrap_or(self.elements.len() as u32));
-            for element in &self.elements {
-                out.uint(*element);
+    pub fn encode(&self, part: Part, out: &mut Encoder) {
+        out.object(part, &self.header, |out| {
+            out.uint("count", self.count.unwrap_or(self.elements.len() as u32));
+            for (number, element) in self.elements.iter().enumerate() {
+                out.nth("element", number, &element.to_be_bytes());
             }
         });
     }
@@ -180,22 +204,23 @@ impl Buckets {
 
     /// The header's object: the fields that both kinds begin with, then the
     /// others.
-    pub fn header(&self, others: impl FnOnce(&mut Encoder)) -> Vec<u8> {
+    pub fn header(&self, others: impl FnOnce(&mut Encoder)) -> Layout {
         let mut out = Encoder::default();
-        out.bytes(&self.mark);
-        out.object(&self.header, |out| {
-            out.bytes(&[self.big_endian]);
-            out.uint(self.stated_size.unwrap_or(self.size));
-            out.uint(self.stated_count.unwrap_or(self.count));
-            out.uint(self.cache_size);
+        out.of(Part::Header, |out| out.field("mark", &self.mark));
+        out.object(Part::Header, &self.header, |out| {
+            out.field("big endian", &[self.big_endian]);
+            out.uint("bucket size", self.stated_size.unwrap_or(self.size));
+            out.uint("bucket count", self.stated_count.unwrap_or(self.count));
+            out.uint("cache size", self.cache_size);
             others(out);
         });
-        out.bytes
+        out.layout()
     }
 
     pub fn free_fields(&self, out: &mut Encoder) {
-        out.uint(self.free_count.unwrap_or(self.free.len() as u32));
-        out.int(self.first_free.unwrap_or(self.free.first().map_or(-1, |first| *first as i32)));
+        out.uint("free count", self.free_count.unwrap_or(self.free.len() as u32));
+        let first = self.free.first().map_or(-1, |first| *first as i32);
+        out.int("first free", self.first_free.unwrap_or(first));
     }
 
     /// The whole file: the header over its first bytes, the changes that come

@@ -1,95 +1,118 @@
 //! The bytes of a table: AipsIO (Note 260, section 2; RULES.md 3).
 
+use crate::layout::{Field, LENGTH, Layout, OBJECT_NAME, OBJECT_VERSION, Object, Part};
 use crate::table::{Column, DefaultValue, Header, Record, Shape, Table, Text};
 
-/// Where an object or string stands.
-#[derive(Clone, Copy, Debug)]
-pub struct Extent {
-    pub start: usize,
-    pub end: usize,
-    /// The object it stands in, by its position among the objects.
-    container: Option<usize>,
-}
-
-/// A table's bytes, and where its objects and strings stand in them, in the
-/// order of [`Table::headers_mut`] and [`Table::texts_mut`].
-#[derive(Clone, Debug)]
-pub struct Layout {
-    pub bytes: Vec<u8>,
-    pub objects: Vec<Extent>,
-    pub texts: Vec<Extent>,
-}
-
-impl Layout {
-    /// The bytes from the extent's start to its container's end.
-    pub fn room(&self, extent: Extent) -> usize {
-        let end = extent.container.map_or(self.bytes.len(), |object| self.objects[object].end);
-        end.saturating_sub(extent.start)
-    }
-}
-
+/// Writes fields, and records where each begins.
 #[derive(Debug, Default)]
 pub struct Encoder {
-    pub bytes: Vec<u8>,
-    objects: Vec<Extent>,
-    texts: Vec<Extent>,
+    bytes: Vec<u8>,
+    objects: Vec<Object>,
+    fields: Vec<Field>,
+    /// Whose fields are written.
+    part: Part,
+    /// The objects that they stand in, the innermost last.
     open: Vec<usize>,
 }
 
 impl Encoder {
-    pub fn bytes(&mut self, bytes: &[u8]) {
+    /// Bytes that are no field.
+    pub fn raw(&mut self, bytes: &[u8]) {
         self.bytes.extend_from_slice(bytes);
     }
 
-    pub fn uint(&mut self, number: u32) {
-        self.bytes(&number.to_be_bytes());
+    fn record_field(&mut self, name: &'static str, number: usize, start: usize, is_text: bool) {
+        self.fields.push(Field {
+            of: self.part,
+            name,
+            number,
+            start,
+            end: self.bytes.len(),
+            container: self.open.last().copied(),
+            is_text,
+        });
     }
 
-    pub fn int(&mut self, number: i32) {
-        self.bytes(&number.to_be_bytes());
-    }
-
-    pub fn text(&mut self, text: &Text) {
+    /// A field that is one of several with its name.
+    pub fn nth(&mut self, name: &'static str, number: usize, bytes: &[u8]) {
         let start = self.bytes.len();
-        self.uint(text.stated.unwrap_or(text.bytes.len() as u32));
-        self.bytes(&text.bytes);
-        let end = self.bytes.len();
-        self.texts.push(Extent { start, end, container: self.open.last().copied() });
+        self.raw(bytes);
+        self.record_field(name, number, start, false);
+    }
+
+    pub fn field(&mut self, name: &'static str, bytes: &[u8]) {
+        self.nth(name, 0, bytes);
+    }
+
+    pub fn uint(&mut self, name: &'static str, number: u32) {
+        self.field(name, &number.to_be_bytes());
+    }
+
+    pub fn int(&mut self, name: &'static str, number: i32) {
+        self.field(name, &number.to_be_bytes());
+    }
+
+    pub fn text(&mut self, name: &'static str, text: &Text) {
+        let start = self.bytes.len();
+        let length = text.stated.unwrap_or(text.bytes.len() as u32);
+        self.raw(&length.to_be_bytes());
+        self.raw(&text.bytes);
+        self.record_field(name, 0, start, true);
+    }
+
+    /// What `fields` writes is of this part.
+    pub fn of(&mut self, part: Part, fields: impl FnOnce(&mut Self)) {
+        let outer = std::mem::replace(&mut self.part, part);
+        fields(self);
+        self.part = outer;
     }
 
     /// An object: its header, then the fields that `fields` writes.
-    pub fn object(&mut self, header: &Header, fields: impl FnOnce(&mut Self)) {
+    pub fn object(&mut self, part: Part, header: &Header, fields: impl FnOnce(&mut Self)) {
+        self.of(part, |out| out.open_object(header, fields));
+    }
+
+    fn open_object(&mut self, header: &Header, fields: impl FnOnce(&mut Self)) {
         let start = self.bytes.len();
         let object = self.objects.len();
-        self.objects.push(Extent { start, end: start, container: self.open.last().copied() });
-        self.uint(0); // the length, known at the end
-        self.text(&header.name);
-        self.uint(header.version);
-        let header_end = self.bytes.len();
+        self.objects.push(Object {
+            of: self.part,
+            start,
+            end: start,
+            length: 0,
+            container: self.open.last().copied(),
+            fields: 0..0,
+        });
+        self.uint(LENGTH, 0); // known at the end
+        self.text(OBJECT_NAME, &header.name);
+        self.uint(OBJECT_VERSION, header.version);
+        let (header_end, first_field) = (self.bytes.len(), self.fields.len());
         self.open.push(object);
         fields(self);
         self.open.pop();
         let kept = self.bytes.len().saturating_sub(header.cut).max(header_end);
         self.bytes.truncate(kept);
-        self.bytes(&header.extra);
+        self.raw(&header.extra);
         let end = self.bytes.len();
-        self.objects[object].end = end;
         let length = header.stated.unwrap_or((end - start) as u32);
         self.bytes[start..start + 4].copy_from_slice(&length.to_be_bytes());
+        let object = &mut self.objects[object];
+        (object.end, object.length) = (end, length as usize);
+        object.fields = first_field..self.fields.len();
     }
 
-    pub fn record(&mut self, record: &Record) {
-        self.object(&record.header, |out| out.bytes(&record.contents));
+    pub fn record(&mut self, part: Part, record: &Record) {
+        self.object(part, &record.header, |out| out.raw(&record.contents));
     }
 
-    pub fn shape(&mut self, shape: &Shape) {
-        self.object(&shape.header, |out| {
-            out.uint(shape.count.unwrap_or(shape.axes.len() as u32));
-            for axis in &shape.axes {
+    pub fn shape(&mut self, part: Part, shape: &Shape) {
+        self.object(part, &shape.header, |out| {
+            out.uint("count", shape.count.unwrap_or(shape.axes.len() as u32));
+            for (number, axis) in shape.axes.iter().enumerate() {
                 if shape.wide {
-                    out.bytes(&axis.to_be_bytes());
+                    out.nth("axis", number, &axis.to_be_bytes());
                 } else {
-                    out.int(*axis as i32);
+                    out.nth("axis", number, &(*axis as i32).to_be_bytes());
                 }
             }
         });
@@ -97,86 +120,96 @@ impl Encoder {
 
     /// What was written, and where.
     pub fn layout(self) -> Layout {
-        Layout { bytes: self.bytes, objects: self.objects, texts: self.texts }
+        let Self { bytes, objects, fields, .. } = self;
+        Layout { bytes, objects, fields, is_big_endian: true }
     }
 
-    fn column_desc(&mut self, column: &Column) {
-        self.uint(column.version);
-        self.text(&column.type_name);
-        self.uint(column.base_version);
-        self.text(&column.name);
-        self.text(&column.comment);
-        self.text(&column.manager_type);
-        self.text(&column.manager_group);
-        self.int(column.data_type);
-        self.int(column.options);
-        self.int(column.dimensionality);
+    fn column_desc(&mut self, position: usize, column: &Column) {
+        self.uint("version", column.version);
+        self.text("type", &column.type_name);
+        self.uint("base version", column.base_version);
+        self.text("name", &column.name);
+        self.text("comment", &column.comment);
+        self.text("manager type", &column.manager_type);
+        self.text("manager group", &column.manager_group);
+        self.int("data type", column.data_type);
+        self.int("options", column.options);
+        self.int("dimensionality", column.dimensionality);
         if let Some(shape) = &column.shape {
-            self.shape(shape);
+            self.shape(Part::Shape(position), shape);
         }
-        self.uint(column.string_maximum);
-        self.record(&column.keywords);
-        self.uint(column.derived_version);
+        self.uint("string maximum", column.string_maximum);
+        self.record(Part::ColumnKeywords(position), &column.keywords);
+        self.uint("derived version", column.derived_version);
         match &column.default {
-            DefaultValue::Bytes(bytes) => self.bytes(bytes),
-            DefaultValue::Text(text) => self.text(text),
+            DefaultValue::Bytes(bytes) => self.field("default", bytes),
+            DefaultValue::Text(text) => self.text("default", text),
         }
     }
 
     fn table_desc(&mut self, table: &Table) {
         let description = &table.description;
-        self.object(&description.header, |out| {
-            out.text(&description.name);
-            out.text(&description.version);
-            out.text(&description.comment);
-            out.record(&description.keywords);
-            out.record(&description.private_keywords);
-            out.uint(description.column_count.unwrap_or(description.columns.len() as u32));
-            for column in &description.columns {
-                out.column_desc(column);
+        self.object(Part::TableDesc, &description.header, |out| {
+            out.text("name", &description.name);
+            out.text("version", &description.version);
+            out.text("comment", &description.comment);
+            out.record(Part::Keywords, &description.keywords);
+            out.record(Part::PrivateKeywords, &description.private_keywords);
+            let count = description.columns.len() as u32;
+            out.uint("column count", description.column_count.unwrap_or(count));
+            for (position, column) in description.columns.iter().enumerate() {
+                out.of(Part::Column(position), |out| out.column_desc(position, column));
             }
         });
     }
 
     fn column_set(&mut self, table: &Table) {
         let set = &table.column_set;
-        self.int(set.version);
-        self.uint(set.rows);
-        self.uint(set.highest);
-        self.uint(set.manager_count.unwrap_or(set.managers.len() as u32));
-        for manager in &set.managers {
-            self.text(&manager.name);
-            self.uint(manager.number);
+        self.int("version", set.version);
+        self.uint("rows", set.rows);
+        self.uint("highest", set.highest);
+        self.uint("manager count", set.manager_count.unwrap_or(set.managers.len() as u32));
+        for (index, manager) in set.managers.iter().enumerate() {
+            self.of(Part::Manager(index), |out| {
+                out.text("name", &manager.name);
+                out.uint("number", manager.number);
+            });
         }
-        for column in &table.description.columns {
-            self.int(column.info.version);
-            self.text(&column.info.original_name);
-            self.uint(column.info.derived_version);
-            self.uint(column.info.manager);
-            if column.is_array() {
-                self.bytes(&[column.info.shape_defined]);
-                if column.info.shape_defined == 1
-                    && let Some(shape) = &column.info.shape
-                {
-                    self.shape(shape);
-                }
-            }
+        for (position, column) in table.description.columns.iter().enumerate() {
+            self.of(Part::ColumnInfo(position), |out| out.column_info(position, column));
         }
-        for manager in &set.managers {
-            self.text(&manager.info);
+        for (index, manager) in set.managers.iter().enumerate() {
+            self.of(Part::Manager(index), |out| out.text("info", &manager.info));
+        }
+    }
+
+    fn column_info(&mut self, position: usize, column: &Column) {
+        let info = &column.info;
+        self.int("version", info.version);
+        self.text("original name", &info.original_name);
+        self.uint("derived version", info.derived_version);
+        self.uint("manager", info.manager);
+        if !column.is_array() {
+            return;
+        }
+        self.field("shape defined", &[info.shape_defined]);
+        if info.shape_defined == 1
+            && let Some(shape) = &info.shape
+        {
+            self.shape(Part::InfoShape(position), shape);
         }
     }
 
     fn table(&mut self, table: &Table) {
-        self.bytes(&table.mark);
-        self.object(&table.header, |out| {
-            out.uint(table.rows);
-            out.uint(table.endianness);
-            out.text(&table.table_type);
+        self.of(Part::Table, |out| out.field("mark", &table.mark));
+        self.object(Part::Table, &table.header, |out| {
+            out.uint("rows", table.rows);
+            out.uint("endianness", table.endianness);
+            out.text("table type", &table.table_type);
             out.table_desc(table);
-            out.column_set(table);
+            out.of(Part::ColumnSet, |out| out.column_set(table));
         });
-        self.bytes(&table.trailing);
+        self.raw(&table.trailing);
         if let Some(length) = table.torn_at {
             self.bytes.truncate(length);
         }

@@ -5,7 +5,8 @@ pub mod generate;
 
 use crate::buckets::{Block, BucketFile, Buckets};
 use crate::cells;
-use crate::encode::{Encoder, Layout};
+use crate::encode::Encoder;
+use crate::layout::{Layout, Part};
 use crate::table::{Column, Header, STRING, Table};
 
 /// A bucket begins with the offset of its index; the data part follows it.
@@ -92,18 +93,28 @@ impl IncrementalFile {
         if self.is_big_endian { number.to_be_bytes() } else { number.to_le_bytes() }
     }
 
-    fn encode_bucket(&self, bucket: &DataBucket) -> Vec<u8> {
+    /// The bucket of an entry; its index may pass the bucket's end.
+    pub fn bucket(&self, entry: usize) -> Layout {
+        let bucket = &self.data[entry];
         let offset = bucket.index_offset.unwrap_or(DATA_START + bucket.data.len() as u32);
-        let mut bytes = self.number(offset).to_vec();
-        bytes.extend_from_slice(&bucket.data);
-        for values in &bucket.columns {
-            let count = values.count.unwrap_or(values.starts.len() as u32);
-            let numbers = [count].into_iter().chain(values.starts.iter().copied());
-            for number in numbers.chain(values.offsets.iter().copied()) {
-                bytes.extend(self.number(number));
-            }
+        let mut out = Encoder::default();
+        out.of(Part::Bucket(entry), |out| out.field("index offset", &self.number(offset)));
+        out.raw(&bucket.data);
+        for (column, values) in bucket.columns.iter().enumerate() {
+            out.of(Part::Values(entry, column), |out| self.encode_values(values, out));
         }
-        bytes
+        Layout { is_big_endian: self.is_big_endian, ..out.layout() }
+    }
+
+    fn encode_values(&self, values: &Values, out: &mut Encoder) {
+        let count = values.count.unwrap_or(values.starts.len() as u32);
+        out.field("count", &self.number(count));
+        for (number, start) in values.starts.iter().enumerate() {
+            out.nth("start", number, &self.number(*start));
+        }
+        for (number, offset) in values.offsets.iter().enumerate() {
+            out.nth("offset", number, &self.number(*offset));
+        }
     }
 }
 
@@ -116,19 +127,38 @@ impl BucketFile for IncrementalFile {
         &mut self.buckets
     }
 
-    fn header(&self) -> Vec<u8> {
+    fn header(&self) -> Layout {
         self.buckets.header(|out| {
-            out.uint(self.unique_column);
+            out.uint("unique column", self.unique_column);
             self.buckets.free_fields(out);
         })
     }
 
     fn encode(&self) -> Vec<u8> {
         let mut bytes = self.buckets.blank();
-        for bucket in &self.data {
-            self.buckets.write(&mut bytes, bucket.number, 0, &self.encode_bucket(bucket));
+        for (entry, bucket) in self.data.iter().enumerate() {
+            self.buckets.write(&mut bytes, bucket.number, 0, &self.bucket(entry).bytes);
         }
-        self.buckets.finish(bytes, &self.header(), &self.index_layout().bytes)
+        self.buckets.finish(bytes, &self.header().bytes, &self.index_layout().bytes)
+    }
+
+    fn parts(&self) -> Vec<Part> {
+        let buckets = (0..self.data.len()).map(Part::Bucket);
+        [Part::Header, Part::Index(0)].into_iter().chain(buckets).collect()
+    }
+
+    fn place_of(&self, part: Part, byte: usize) -> usize {
+        self.layout_of(part).0 + byte
+    }
+
+    fn layout_of(&self, part: Part) -> (usize, Layout) {
+        match part {
+            Part::Header => (0, self.header()),
+            Part::Bucket(entry) | Part::Values(entry, _) => {
+                (self.buckets.start(self.data[entry].number), self.bucket(entry))
+            }
+            _ => (self.buckets.start(self.buckets.count), self.index_layout()),
+        }
     }
 
     fn border_rows(&self) -> Vec<u32> {
@@ -144,13 +174,14 @@ impl BucketFile for IncrementalFile {
 
     fn index_layout(&self) -> Layout {
         let mut out = Encoder::default();
-        out.bytes(&self.index.mark);
-        out.object(&self.index.header, |out| {
-            out.uint(self.index.count.unwrap_or(self.index.buckets.elements.len() as u32));
-            self.index.first_rows.encode(out);
-            self.index.buckets.encode(out);
+        out.of(Part::Index(0), |out| out.field("mark", &self.index.mark));
+        out.object(Part::Index(0), &self.index.header, |out| {
+            let count = self.index.buckets.elements.len() as u32;
+            out.uint("count", self.index.count.unwrap_or(count));
+            self.index.first_rows.encode(Part::Rows(0), out);
+            self.index.buckets.encode(Part::Numbers(0), out);
         });
-        out.bytes(&self.buckets.trailing);
+        out.raw(&self.buckets.trailing);
         out.layout()
     }
 

@@ -7,6 +7,8 @@ use crate::rng::Rng;
 
 /// The longest room that is lent.
 const MAX_ROOM: usize = 1_048_576;
+/// Plenty of room for a sample.
+const SAMPLE_ROOM: usize = 400;
 
 /// What questions about a file choose from. It need not be right: the files
 /// may have faults.
@@ -88,6 +90,21 @@ impl Asked {
 
     fn line(&self, word: &str, rest: &str) -> String {
         format!("{word} {} {} {rest}", hex(&self.table), hex(&self.file))
+    }
+
+    /// One of the questions that check the file, each in its turn, about a
+    /// column that has places.
+    pub fn in_turn(&self, turn: usize) -> String {
+        let (row, column) = (0, self.own[0][0]);
+        let (position, plan, room) = (column as u64, &self.plans[column], SAMPLE_ROOM);
+        match turn % 6 {
+            0 => self.check(self.number.into(), room),
+            1 => self.plan(position, room),
+            2 => self.cell("place", row, position, room),
+            3 => self.cell("view", row, position, room),
+            4 => self.planned_cell("placeplan", row, plan, room),
+            _ => self.planned_cell("viewplan", row, plan, room),
+        }
     }
 
     /// Some question.

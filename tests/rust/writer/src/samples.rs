@@ -160,6 +160,25 @@ pub fn arrays_incremental() -> Subject<IncrementalFile> {
     Subject { table: arrays(), number: 1, file }
 }
 
+/// The samples' StandardStMan files with their tables, and the small one in the
+/// other byte order with free space.
+pub fn standard_files() -> Vec<Subject<StandardFile>> {
+    let mut little = small_file();
+    little.table.endianness = 0;
+    little.file.buckets.big_endian = 0;
+    little.file.indices[0].free_space.pairs = vec![(49, 15), (64, 0)];
+    vec![small_file(), little, arrays_standard()]
+}
+
+/// The samples' IncrementalStMan file with its table, in both byte orders.
+pub fn incremental_files() -> Vec<Subject<IncrementalFile>> {
+    let mut big = arrays_incremental();
+    big.table.endianness = 1;
+    big.file.buckets.big_endian = 1;
+    big.file.is_big_endian = true;
+    vec![arrays_incremental(), big]
+}
+
 /// Where a cell of a named column stands: its first bit.
 fn first_bit(subject: &Subject<StandardFile>, name: &str, row: u32) -> usize {
     let columns = subject.table.columns();
@@ -234,7 +253,7 @@ impl Heap {
 }
 
 /// A good table, and bytes after it: one more than a file may have.
-fn overlong() -> Vec<u8> {
+pub fn overlong() -> Vec<u8> {
     let mut bytes = small().encode();
     bytes.resize(65_537, 0);
     bytes

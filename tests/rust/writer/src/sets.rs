@@ -1,23 +1,25 @@
 //! Sets of request lines.
 
-use crate::encode::Layout;
 use crate::faults::{self, Expect, FAULTS, LARGE_FAULTS};
+use crate::fields;
 use crate::file_cases;
 use crate::generate;
 use crate::hex::hex;
 use crate::large_files;
+use crate::layout::Layout;
 use crate::looks;
 use crate::rng::Rng;
 use crate::samples;
 use crate::small_file;
 use crate::table::{BOOL, Column, INT, Manager, Record, Table};
+use crate::torn;
 use crate::type_numbers;
 
 /// How to ask for a set, for usage texts.
 pub const USAGE: &str = "\
 tables SEED COUNT  generated questions about good tables and tables with faults
 prefixes           Description of every prefix of two good tables, as it is and
-                   with the lengths of cut objects cut too
+                   with the lengths of cut objects cut too; and of long ones
 bytes              Description after every change of one byte of a small table
 large [SEED COUNT] tables of 64 columns and 16 managers, near 65,536 bytes
 types [SEED COUNT] the bits of an element, by type number: -1,000 to 100,000
@@ -27,6 +29,8 @@ standard SEED COUNT
                    generated questions about good and faulty StandardStMan files
 incremental SEED COUNT
                    the same about IncrementalStMan files
+fields             every named field of the samples with other bytes
+torn               the samples' files, cut off at one byte after the other
 looks              Place in good files whose sets have 1 to 3,900 entries
 files-large [SEED COUNT]
                    files of 4,096 buckets, or with the largest buckets
@@ -43,6 +47,8 @@ pub enum Set {
     Bad,
     Standard { seed: u64, count: u64 },
     Incremental { seed: u64, count: u64 },
+    Fields,
+    Torn,
     Looks,
     FilesLarge { seed: u64, count: u64 },
     SmallFile,
@@ -71,6 +77,8 @@ impl Set {
             ["incremental", seed, count] => {
                 Self::Incremental { seed: number(seed)?, count: number(count)? }
             }
+            ["fields"] => Self::Fields,
+            ["torn"] => Self::Torn,
             ["looks"] => Self::Looks,
             ["files-large"] => Self::FilesLarge { seed: 1, count: 60 },
             ["files-large", seed, count] => {
@@ -91,7 +99,8 @@ impl Set {
             })),
             Self::Prefixes => {
                 let tables = [samples::small(), samples::arrays()];
-                Box::new(tables.into_iter().flat_map(|table| prefixes(table.layout())))
+                let tables = tables.into_iter().flat_map(|table| prefixes(table.layout()));
+                Box::new(tables.chain(long_prefixes(samples::overlong())))
             }
             Self::Bytes => Box::new(changes(&tiny().encode())),
             Self::Large { seed, count } => Box::new((0..count).map(move |number| {
@@ -113,6 +122,8 @@ impl Set {
                 let rng = &mut Rng::new(seed, number);
                 file_cases::incremental(rng).question(rng)
             })),
+            Self::Fields => Box::new(fields::lines()),
+            Self::Torn => Box::new(torn::lines()),
             Self::Looks => Box::new(looks::lines()),
             Self::FilesLarge { seed, count } => Box::new((0..count).map(move |number| {
                 let rng = &mut Rng::new(seed, number);
@@ -127,6 +138,7 @@ impl Set {
 #[derive(Clone, Debug)]
 pub struct Case {
     pub bytes: Vec<u8>,
+    /// With the byte of a refusal.
     pub expect: Expect,
     /// The fault's name.
     pub what: &'static str,
@@ -135,9 +147,11 @@ pub struct Case {
 }
 
 impl Case {
-    fn new(table: &Table, expect: Expect, what: &'static str) -> Self {
+    pub fn new(table: &Table, expect: Expect, what: &'static str) -> Self {
         let names = table.columns().iter().map(|column| column.name.bytes.clone()).collect();
-        Self { bytes: table.encode(), expect, what, names }
+        let layout = table.layout();
+        let expect = expect.at_byte(|blame| layout.byte(blame));
+        Self { bytes: layout.bytes, expect, what, names }
     }
 }
 
@@ -187,8 +201,8 @@ fn single_fault(rng: &mut Rng, table: &mut Table) -> Case {
     let (what, fault) = rng.pick(FAULTS);
     let expect = fault(rng, table);
     let case = Case::new(table, expect, what);
-    if case.bytes.len() > 65_536 {
-        return Case { expect: Expect::Refused(4), ..case };
+    if case.bytes.len() > faults::MAX_FILE {
+        return Case { expect: faults::TOO_LONG, ..case };
     }
     case
 }
@@ -248,23 +262,19 @@ fn asked_name(rng: &mut Rng, case: &Case) -> Vec<u8> {
 }
 
 /// Every prefix as it is, and with the lengths of the objects that it cuts off
-/// cut too, so that a reader gets as far as there are fields.
+/// cut too.
 fn prefixes(layout: Layout) -> impl Iterator<Item = String> + Send {
-    let digits = hex(&layout.bytes);
     (0..=layout.bytes.len()).flat_map(move |length| {
-        if length == 0 {
-            return vec!["describe -".to_string()];
-        }
-        let torn = format!("describe {}", &digits[..2 * length]);
-        let mut bytes = layout.bytes[..length].to_vec();
-        for object in &layout.objects {
-            if object.start + 4 <= length && length < object.end {
-                let left = (length - object.start) as u32;
-                bytes[object.start..object.start + 4].copy_from_slice(&left.to_be_bytes());
-            }
-        }
-        vec![torn, format!("describe {}", hex(&bytes))]
+        [layout.bytes[..length].to_vec(), layout.cut(length)]
+            .map(|bytes| format!("describe {}", hex(&bytes)))
     })
+}
+
+/// Some prefixes of a table with bytes after it, and those beside the longest.
+fn long_prefixes(table: Vec<u8>) -> impl Iterator<Item = String> + Send {
+    let longest = faults::MAX_FILE;
+    let lengths = (1000..longest - 1).step_by(4096).chain(longest - 1..=table.len());
+    lengths.map(move |length| format!("describe {}", hex(&table[..length])))
 }
 
 /// A small table of a scalar and an array.

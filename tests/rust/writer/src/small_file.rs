@@ -215,7 +215,7 @@ fn torn() -> impl Iterator<Item = Asked> + Send {
 fn changes() -> impl Iterator<Item = Asked> + Send {
     let subject = small(1);
     let whole = Asked::new(&subject);
-    let header = 0..subject.file.header().len();
+    let header = 0..subject.file.header().bytes.len();
     let index = [1, 3, 4].into_iter().flat_map(move |bucket| {
         let start = subject.file.buckets.start(bucket);
         start..start + 64

@@ -5,7 +5,8 @@ pub mod generate;
 
 use crate::buckets::{Block, BucketFile, Buckets};
 use crate::cells;
-use crate::encode::{Encoder, Layout};
+use crate::encode::Encoder;
+use crate::layout::{Layout, Part};
 use crate::table::{Column, Header, Table};
 
 /// An index bucket of a chain begins with the next number, twice.
@@ -63,15 +64,15 @@ impl Index {
         }
     }
 
-    fn encode(&self, out: &mut Encoder) {
-        out.bytes(&self.mark);
-        out.object(&self.header, |out| {
-            out.uint(self.entries.unwrap_or(self.last_rows.elements.len() as u32));
-            out.uint(self.rows_per_bucket);
-            out.int(self.columns);
-            self.free_space.encode(out);
-            self.last_rows.encode(out);
-            self.buckets.encode(out);
+    fn encode(&self, set: usize, out: &mut Encoder) {
+        out.of(Part::Index(set), |out| out.field("mark", &self.mark));
+        out.object(Part::Index(set), &self.header, |out| {
+            out.uint("entries", self.entries.unwrap_or(self.last_rows.elements.len() as u32));
+            out.uint("rows per bucket", self.rows_per_bucket);
+            out.int("columns", self.columns);
+            self.free_space.encode(Part::FreeSpace(set), out);
+            self.last_rows.encode(Part::Rows(set), out);
+            self.buckets.encode(Part::Numbers(set), out);
         });
     }
 }
@@ -93,14 +94,14 @@ impl FreeSpace {
         Self { header, default: 0, count: None, increment: 16, pairs }
     }
 
-    fn encode(&self, out: &mut Encoder) {
-        out.object(&self.header, |out| {
-            out.int(self.default);
-            out.uint(self.count.unwrap_or(self.pairs.len() as u32));
-            out.uint(self.increment);
-            for (offset, length) in &self.pairs {
-                out.int(*offset);
-                out.int(*length);
+    fn encode(&self, part: Part, out: &mut Encoder) {
+        out.object(part, &self.header, |out| {
+            out.int("default", self.default);
+            out.uint("count", self.count.unwrap_or(self.pairs.len() as u32));
+            out.uint("increment", self.increment);
+            for (number, (offset, length)) in self.pairs.iter().enumerate() {
+                out.nth("key", number, &offset.to_be_bytes());
+                out.nth("value", number, &length.to_be_bytes());
             }
         });
     }
@@ -127,10 +128,10 @@ impl StandardFile {
     /// The index text, and where its objects stand.
     pub fn text(&self) -> Layout {
         let mut out = Encoder::default();
-        for index in &self.indices {
-            index.encode(&mut out);
+        for (set, index) in self.indices.iter().enumerate() {
+            index.encode(set, &mut out);
         }
-        out.bytes(&self.text_after);
+        out.raw(&self.text_after);
         out.layout()
     }
 
@@ -155,6 +156,19 @@ impl StandardFile {
             let bucket = self.buckets.add();
             self.index_chain.push(bucket);
         }
+    }
+
+    /// The file with other bytes in place of the index text; the header has the
+    /// text's own length.
+    pub fn with_text(&self, text: &[u8]) -> Vec<u8> {
+        let index_length = Some(text.len() as u32);
+        Self { index_length, ..self.clone() }.encode_with(text)
+    }
+
+    fn encode_with(&self, text: &[u8]) -> Vec<u8> {
+        let mut bytes = self.buckets.blank();
+        self.put_text(&mut bytes, text);
+        self.buckets.finish(bytes, &self.header().bytes, &self.buckets.trailing)
     }
 
     fn put_text(&self, bytes: &mut [u8], text: &[u8]) {
@@ -182,25 +196,43 @@ impl BucketFile for StandardFile {
         &mut self.buckets
     }
 
-    fn header(&self) -> Vec<u8> {
+    fn header(&self) -> Layout {
         self.buckets.header(|out| {
             self.buckets.free_fields(out);
-            out.uint(self.index_buckets.unwrap_or(self.index_chain.len() as u32));
+            out.uint("index buckets", self.index_buckets.unwrap_or(self.index_chain.len() as u32));
             let first = self.index_chain.first().map_or(-1, |first| *first as i32);
-            out.int(self.first_index.unwrap_or(first));
-            out.uint(self.index_offset);
-            out.int(self.last_heap);
-            out.uint(self.index_length() as u32);
-            out.uint(self.index_count.unwrap_or(self.indices.len() as u32));
+            out.int("first index bucket", self.first_index.unwrap_or(first));
+            out.uint("index offset", self.index_offset);
+            out.int("last heap bucket", self.last_heap);
+            out.uint("index length", self.index_length() as u32);
+            out.uint("indices", self.index_count.unwrap_or(self.indices.len() as u32));
         })
     }
 
     fn encode(&self) -> Vec<u8> {
         let mut file = self.clone();
         file.settle();
-        let mut bytes = file.buckets.blank();
-        file.put_text(&mut bytes, &file.text().bytes);
-        file.buckets.finish(bytes, &file.header(), &file.buckets.trailing)
+        file.encode_with(&file.text().bytes)
+    }
+
+    fn parts(&self) -> Vec<Part> {
+        vec![Part::Header, Part::Index(0)]
+    }
+
+    /// The bytes of the index text count from its start.
+    fn layout_of(&self, part: Part) -> (usize, Layout) {
+        (0, if part == Part::Header { self.header() } else { self.text() })
+    }
+
+    fn place_of(&self, part: Part, byte: usize) -> usize {
+        if part == Part::Header {
+            return byte;
+        }
+        if self.index_offset > 0 {
+            return self.buckets.start(self.index_chain[0]) + self.index_offset as usize + byte;
+        }
+        let in_bucket = self.buckets.size as usize - LINKS;
+        self.buckets.start(self.index_chain[byte / in_bucket]) + LINKS + byte % in_bucket
     }
 
     fn border_rows(&self) -> Vec<u32> {

@@ -1,23 +1,21 @@
 //! What the writer expects of each table it makes, against the model.
 
+mod common;
+
+use common::assert_answer;
+use model::Refusal;
 use std::collections::BTreeMap;
-use writer::faults::{Expect, FAULTS, LARGE_FAULTS};
+use writer::faults::{FAULTS, LARGE_FAULTS};
 use writer::rng::Rng;
 use writer::sets::{Case, case, large_case};
 use writer::{generate, table::Table};
 
-/// The model's answer: 0 for an accepted table.
-fn refusal(bytes: &[u8]) -> u8 {
-    model::describe(bytes).err().unwrap_or(0)
+fn refusal(bytes: &[u8]) -> Option<Refusal> {
+    model::describe(bytes).err()
 }
 
-fn check(bytes: &[u8], expect: Expect, what: &str, number: u64) {
-    let expected = match expect {
-        Expect::Accepted => 0,
-        Expect::Refused(refusal) => refusal,
-        Expect::Open => return,
-    };
-    assert_eq!(refusal(bytes), expected, "{what}, case {number}");
+fn assert_case(case: &Case, number: u64) {
+    assert_answer(refusal(&case.bytes), case.expect, &format!("{}, case {number}", case.what));
 }
 
 #[test]
@@ -27,7 +25,7 @@ fn every_fault_is_refused_as_expected() {
             let rng = &mut Rng::new(11, number);
             let mut table = generate::table(rng);
             let expect = fault(rng, &mut table);
-            check(&table.encode(), expect, what, number);
+            assert_case(&Case::new(&table, expect, what), number);
         }
     }
 }
@@ -40,7 +38,7 @@ fn every_fault_is_reached() {
             let rng = &mut Rng::new(12, number);
             let mut table = generate::table(rng);
             fault(rng, &mut table);
-            refusal(&table.encode()) > 0
+            refusal(&table.encode()).is_some()
         });
         let is_harmless =
             ["original names twice", "trailing bytes", "record contents"].contains(what);
@@ -52,9 +50,10 @@ fn every_fault_is_reached() {
 fn generated_cases_are_answered_as_expected() {
     let mut found = BTreeMap::new();
     for number in 0..8000 {
-        let Case { bytes, expect, what, .. } = case(&mut Rng::new(13, number));
-        check(&bytes, expect, what, number);
-        *found.entry(refusal(&bytes)).or_insert(0) += 1;
+        let case = case(&mut Rng::new(13, number));
+        assert_case(&case, number);
+        let refusal = refusal(&case.bytes).map_or(0, |refusal| refusal.number);
+        *found.entry(refusal).or_insert(0) += 1;
     }
     assert_eq!(found.keys().copied().collect::<Vec<_>>(), (0..=7).collect::<Vec<_>>());
     assert!(found.values().all(|count| *count > 200), "{found:?}");
@@ -99,8 +98,7 @@ fn descriptions_are_as_written() {
 #[test]
 fn large_cases_are_answered_as_expected() {
     for number in 0..60 {
-        let Case { bytes, expect, what, .. } = large_case(&mut Rng::new(14, number));
-        check(&bytes, expect, what, number);
+        assert_case(&large_case(&mut Rng::new(14, number)), number);
     }
 }
 
@@ -117,11 +115,12 @@ fn layout_is_in_file_order() {
             assert_eq!(name, header.name.bytes);
         }
         let texts = table.texts_mut();
-        assert_eq!(texts.len(), layout.texts.len());
-        for ((_, text), extent) in texts.iter().zip(&layout.texts) {
-            assert_eq!(&layout.bytes[extent.start + 4..extent.end], text.bytes);
+        let written = layout.texts();
+        assert_eq!(texts.len(), written.len());
+        for ((_, text), field) in texts.iter().zip(&written) {
+            assert_eq!(&layout.bytes[field.start + 4..field.end], text.bytes);
         }
-        assert!(layout.texts.is_sorted_by_key(|text| text.start));
+        assert!(layout.fields.is_sorted_by_key(|field| field.start));
         assert!(layout.objects.is_sorted_by_key(|object| object.start));
     }
 }

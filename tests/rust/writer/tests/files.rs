@@ -1,6 +1,10 @@
 //! What the writer expects of each file it makes, against the model.
 
-use model::Placed;
+mod common;
+
+use common::assert_answer;
+use model::refusal::{BOOL_VIEW, NO_SUCH};
+use model::{Placed, Refusal};
 use writer::bucket_faults::{Fault, two_faults};
 use writer::buckets::{BucketFile, Subject};
 use writer::objects::Expect;
@@ -11,24 +15,20 @@ use writer::{incremental, large_files, looks, standard};
 
 const ROOM: usize = 65_536;
 
-/// The model's answer to the check: 0 for an accepted file.
-fn refusal<F: BucketFile>(subject: &Subject<F>) -> u8 {
+/// The model's answer to the check.
+fn refusal<F: BucketFile>(subject: &Subject<F>) -> Option<Refusal> {
     let (table, file) = (subject.table.encode(), subject.file.encode());
     let mut room = vec![0xA5; ROOM];
     let answer = model::check(&table, subject.number.into(), &file, &mut room);
     if answer.is_err() {
         assert!(room.iter().all(|byte| *byte == 0));
     }
-    answer.err().unwrap_or(0)
+    answer.err()
 }
 
-fn assert_answer<F: BucketFile>(subject: &Subject<F>, expect: Expect, what: &str, number: u64) {
-    let expected = match expect {
-        Expect::Accepted => 0,
-        Expect::Refused(refusal) => refusal,
-        Expect::Open => return,
-    };
-    assert_eq!(refusal(subject), expected, "{what}, case {number}");
+fn assert_refusal<F: BucketFile>(subject: &Subject<F>, expect: Expect, what: &str, number: u64) {
+    let expect = expect.at_byte(|blame| subject.file.byte(blame));
+    assert_answer(refusal(subject), expect, &format!("{what}, case {number}"));
 }
 
 /// A good file is accepted, every cell is where the writer put it, and the
@@ -39,7 +39,7 @@ fn assert_cells<F: BucketFile>(subject: &Subject<F>, number: u64, is_standard: b
     let length = subject.file.index_length();
     let mut room = vec![0xA5; length];
     let checked = model::numbers::check(&table, &file, subject.number.into(), &mut room);
-    assert_eq!(checked, Ok([subject.file.buckets().size.into()]), "case {number}");
+    assert_eq!(checked, Ok([subject.file.buckets().size.into(), 0]), "case {number}");
     let mut rows = subject.file.border_rows();
     rows.extend([0, 1, subject.table.rows / 2, subject.table.rows.wrapping_sub(1)]);
     rows.retain(|row| *row < subject.table.rows);
@@ -54,8 +54,8 @@ fn assert_cells<F: BucketFile>(subject: &Subject<F>, number: u64, is_standard: b
             is_standard || column.data_type != STRING.number
         );
         if !subject.file.has_place(column) {
-            assert_eq!(plan, Err(8), "case {number}");
-            assert_eq!(model::place(&table, &file, 0, position, &mut room), Err(8));
+            assert_eq!(plan, Err(NO_SUCH), "case {number}");
+            assert_eq!(model::place(&table, &file, 0, position, &mut room), Err(NO_SUCH));
             continue;
         }
         let plan = plan.unwrap();
@@ -71,7 +71,7 @@ fn assert_cells<F: BucketFile>(subject: &Subject<F>, number: u64, is_standard: b
             assert_eq!(place, expected, "case {number}, row {row}");
             let view = model::view(&table, &file, row, position, &mut room);
             if is_standard && column.data_type == BOOL.number {
-                assert_eq!(view, Err(14));
+                assert_eq!(view, Err(BOOL_VIEW));
             } else {
                 assert_eq!(view.unwrap(), &file[first as usize / 8..][..bits as usize / 8]);
             }
@@ -109,14 +109,14 @@ fn assert_faults<F: BucketFile>(faults: &[Fault<F>], generate: fn(&mut Rng) -> S
             let rng = &mut Rng::new(33, number);
             let mut subject = generate(rng);
             let expect = (fault.apply)(rng, &mut subject);
-            assert_answer(&subject, expect, fault.name, number);
+            assert_refusal(&subject, expect, fault.name, number);
         }
     }
     for number in 0..4000 {
         let rng = &mut Rng::new(34, number);
         let mut subject = generate(rng);
         let (expect, names) = two_faults(rng, &mut subject, faults);
-        assert_answer(&subject, expect, &names.join(" and "), number);
+        assert_refusal(&subject, expect, &names.join(" and "), number);
     }
 }
 
@@ -141,7 +141,7 @@ fn assert_reached<F: BucketFile>(
             let rng = &mut Rng::new(35, number);
             let mut subject = generate(rng);
             (fault.apply)(rng, &mut subject);
-            refusal(&subject) > 0
+            refusal(&subject).is_some()
         });
         assert_eq!(refused, !harmless.contains(&fault.name), "{}", fault.name);
     }
@@ -179,7 +179,7 @@ fn large_files_are_accepted() {
         let rng = &mut Rng::new(36, number);
         assert_cells(&large_files::standard(rng), number, true);
         assert_cells(&large_files::incremental(rng), number, false);
-        assert_eq!(refusal(&large_files::large_bucket(rng, number)), 0);
+        assert_eq!(refusal(&large_files::large_bucket(rng, number)), None);
     }
     for endianness in [0, 1] {
         assert_cells(&large_files::most_entries(endianness), endianness.into(), true);

@@ -1,5 +1,6 @@
 //! Rules of RULES.md 6 for IncrementalStMan, each by hand on a small file.
 
+use model::refusal::{NO_ROW, NO_SUCH};
 use model::{Kind, check, place, plan, view};
 use writer::buckets::{BucketFile, Buckets, Subject};
 use writer::incremental::{DataBucket, IncrementalFile, Values};
@@ -53,7 +54,7 @@ fn small(change: impl Fn(&mut Small)) -> u8 {
         let mut room = [0xA5; 5];
         let answer = check(&table, 1, &file, &mut room);
         assert_eq!(room, [0; 5]);
-        answer.err().unwrap_or(0)
+        answer.err().map_or(0, |refusal| refusal.number)
     });
     assert_eq!(big, little);
     big
@@ -122,10 +123,10 @@ fn places() {
         assert_eq!((fields.set, fields.offset, fields.rows_per_bucket), (0, 0, 0));
         assert_eq!(fields.bucket_size, 79);
         // A String has none, nor has another manager's column.
-        assert_eq!(byte(0, 1), Err(8));
-        assert_eq!(byte(0, 2), Err(8));
-        assert_eq!(byte(7, 0), Err(9));
-        assert_eq!(byte(1 << 32, 0), Err(9));
+        assert_eq!(byte(0, 1), Err(NO_SUCH));
+        assert_eq!(byte(0, 2), Err(NO_SUCH));
+        assert_eq!(byte(7, 0), Err(NO_ROW));
+        assert_eq!(byte(1 << 32, 0), Err(NO_ROW));
     }
 }
 

@@ -69,7 +69,7 @@ fn answers() -> BTreeMap<(String, String), usize> {
         let answer = model::answer(&line);
         let fields: Vec<&str> = answer.split(' ').collect();
         let counted = match fields[..] {
-            ["refused", number, _] => format!("refused {number}"),
+            ["refused", number, _, _] => format!("refused {number}"),
             ["ok", _, _, looks, _] => looks.to_string(),
             ["ok", ..] => "ok".to_string(),
             _ => panic!("no request: {}", &line[..40]),

@@ -1,6 +1,7 @@
 //! The model's numbers of good tables, against what the writer wrote.
 
 use model::numbers;
+use model::refusal::NO_SUCH;
 use writer::cells;
 use writer::generate;
 use writer::rng::Rng;
@@ -20,7 +21,7 @@ fn every_number_is_what_was_written() {
         let bytes = table.encode();
         let (columns, managers) = (table.columns(), table.managers());
         let counts = [columns.len() as u64, managers.len() as u64];
-        let description = [table.rows.into(), table.endianness.into(), counts[0], counts[1]];
+        let description = [table.rows.into(), table.endianness.into(), counts[0], counts[1], 0];
         assert_eq!(numbers::description(&bytes), Ok(description), "table {number}");
         let mut before = 0; // columns are described in stored order
         for (position, column) in columns.iter().enumerate() {
@@ -42,12 +43,15 @@ fn every_number_is_what_was_written() {
                 column.info.manager.into(),
                 info[0].into(),
                 info[1].into(),
+                0, // no byte
             ];
             assert_eq!(numbers, expected, "table {number}, column {position}");
-            assert_eq!(numbers::column_by_name(&bytes, &column.name.bytes), Ok([position as u64]));
+            let found = numbers::column_by_name(&bytes, &column.name.bytes);
+            assert_eq!(found, Ok([position as u64, 0]));
         }
         for (index, manager) in managers.iter().enumerate() {
-            let [sequence, kind, start, length] = numbers::manager(&bytes, index as u64).unwrap();
+            let numbers = numbers::manager(&bytes, index as u64).unwrap();
+            let [sequence, kind, start, length, byte] = numbers;
             assert_text(&bytes, [start, length], &manager.name.bytes);
             assert!(start > before); // managers stand after the columns' descriptions
             before = start;
@@ -56,9 +60,10 @@ fn every_number_is_what_was_written() {
                 b"IncrementalStMan" => 2,
                 _ => 0,
             };
-            assert_eq!([sequence, kind], [manager.number.into(), expected], "table {number}");
+            let expected = [manager.number.into(), expected, 0];
+            assert_eq!([sequence, kind, byte], expected, "table {number}");
         }
-        assert_eq!(numbers::column(&bytes, counts[0]), Err(8));
-        assert_eq!(numbers::manager(&bytes, counts[1]), Err(8));
+        assert_eq!(numbers::column(&bytes, counts[0]), Err(NO_SUCH));
+        assert_eq!(numbers::manager(&bytes, counts[1]), Err(NO_SUCH));
     }
 }

@@ -10,7 +10,7 @@ use writer::table::{
 /// The refusal number of a table after a change, 0 if it is accepted.
 fn after(mut table: Table, change: impl FnOnce(&mut Table)) -> u8 {
     change(&mut table);
-    describe(&table.encode()).err().unwrap_or(0)
+    describe(&table.encode()).err().map_or(0, |refusal| refusal.number)
 }
 
 /// The small table (RULES.md 11.1) after a change.
@@ -67,7 +67,8 @@ fn samples_are_listed() {
          13 FLAG_CORR Bool 4 0\n\
          14 CORR_PRODUCT Int 8 4\n"
     );
-    assert_eq!(listings[2..], ["refused 4\n", "refused 1\n", "refused 1\n"]);
+    // Too long; no mark; Table passes the file's end.
+    assert_eq!(listings[2..], ["refused 4 65536\n", "refused 1 0\n", "refused 1 4\n"]);
 }
 
 #[test]

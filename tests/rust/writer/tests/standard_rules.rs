@@ -1,6 +1,7 @@
 //! Rules of RULES.md 5 for StandardStMan, each by hand on its small file.
 
-use model::{Kind, Plan, check, place, place_by_plan, plan, view, view_by_plan};
+use model::refusal::{BOOL_VIEW, NO_ROW, NO_SUCH, STALE_PLAN};
+use model::{Kind, Plan, Refusal, check, place, place_by_plan, plan, view, view_by_plan};
 use writer::buckets::{BucketFile, Subject};
 use writer::samples;
 use writer::standard::{FreeSpace, Index, StandardFile};
@@ -13,7 +14,8 @@ const ROOM: usize = 70_000;
 /// The refusal number of a file's check, 0 if it is accepted.
 fn refusal(subject: &Small) -> u8 {
     let (table, file) = (subject.table.encode(), subject.file.encode());
-    check(&table, subject.number.into(), &file, &mut vec![0; ROOM]).err().unwrap_or(0)
+    let answer = check(&table, subject.number.into(), &file, &mut vec![0; ROOM]);
+    answer.err().map_or(0, |refusal| refusal.number)
 }
 
 /// The refusal number of the small file after a change.
@@ -355,16 +357,24 @@ fn managers_and_columns_come_before_the_file() {
     let table = mixed().encode();
     let room = &mut [0xA5; 4];
     for (position, answer) in [(0, 1), (1, 8), (2, 1), (3, 8), (4, 8), (5, 1), (7, 8)] {
-        assert_eq!(plan(&table, &[], position, room), Err(answer), "{position}");
-        assert_eq!(place(&table, &[], 99, position, room), Err(answer), "{position}");
-        assert_eq!(view(&table, &[], 99, position, room), Err(answer), "{position}");
+        assert_eq!(plan(&table, &[], position, room), Err(Refusal::at(answer, 0)), "{position}");
+        assert_eq!(
+            place(&table, &[], 99, position, room),
+            Err(Refusal::at(answer, 0)),
+            "{position}"
+        );
+        assert_eq!(
+            view(&table, &[], 99, position, room),
+            Err(Refusal::at(answer, 0)),
+            "{position}"
+        );
     }
     for (number, answer) in [(3, 1), (5, 1), (7, 8), (4, 8), (1 << 32 | 3, 8), (u64::MAX, 8)] {
-        assert_eq!(check(&table, number, &[], room), Err(answer), "{number}");
+        assert_eq!(check(&table, number, &[], room), Err(Refusal::at(answer, 0)), "{number}");
     }
     assert_eq!(*room, [0; 4]);
     // The table comes before them.
-    assert_eq!(check(&table[..50], 7, &[], room), Err(1));
+    assert_eq!(check(&table[..50], 7, &[], room), Err(Refusal::at(1, 4)));
 }
 
 #[test]
@@ -380,15 +390,15 @@ fn bools_and_arrays() {
         let placed = place(&table, &file, row, position, room)?;
         // Each set has two entries.
         assert_eq!((placed.looks, placed.entries), (1, 2));
-        Ok::<_, u8>((placed.first_bit, placed.bit_count))
+        Ok::<_, Refusal>((placed.first_bit, placed.bit_count))
     };
     // An array in the array file takes 64 bits; its view is refused all the same.
     assert_eq!(position(2, 5, room), Ok((8 * (512 + 16) + 64, 64)));
-    assert_eq!(view(&table, &file, 5, 2, room), Err(14));
+    assert_eq!(view(&table, &file, 5, 2, room), Err(BOOL_VIEW));
     // Three Bools in a row cross a byte's border.
     assert_eq!(position(5, 2, room), Ok((8 * (512 + 2 * 80 + 48) + 6, 3)));
-    assert_eq!(view(&table, &file, 2, 5, room), Err(14));
-    assert_eq!(view(&table, &file, 7, 5, room), Err(9));
+    assert_eq!(view(&table, &file, 2, 5, room), Err(BOOL_VIEW));
+    assert_eq!(view(&table, &file, 7, 5, room), Err(NO_ROW));
     // A String without maximum has a place in StandardStMan.
     assert_eq!(position(6, 6, room), Ok((8 * (512 + 6 * 80) + 96, 96)));
     assert_eq!(view(&table, &file, 6, 6, room), Ok(&file[512 + 6 * 80 + 12..][..12]));
@@ -409,17 +419,17 @@ fn bools_and_arrays() {
     ] {
         let mut stale = fields;
         change(&mut stale);
-        assert_eq!(place_by_plan(&table, &file, 0, &stale, room), Err(12));
-        assert_eq!(view_by_plan(&table, &file, 7, &stale, room), Err(12));
+        assert_eq!(place_by_plan(&table, &file, 0, &stale, room), Err(STALE_PLAN));
+        assert_eq!(view_by_plan(&table, &file, 7, &stale, room), Err(STALE_PLAN));
         assert!(room.iter().all(|byte| *byte == 0));
     }
-    assert_eq!(view_by_plan(&table, &file, 7, &fields, room), Err(9));
-    assert_eq!(view_by_plan(&table, &file, 6, &fields, room), Err(14));
+    assert_eq!(view_by_plan(&table, &file, 7, &fields, room), Err(NO_ROW));
+    assert_eq!(view_by_plan(&table, &file, 6, &fields, room), Err(BOOL_VIEW));
     // Columns of other kinds give 8, whatever the plan says.
     for position in [1, 3, 4, 7, u64::MAX] {
         let other = Plan { position, ..fields };
-        assert_eq!(place_by_plan(&table, &file, 0, &other, room), Err(8));
+        assert_eq!(place_by_plan(&table, &file, 0, &other, room), Err(NO_SUCH));
     }
     // The file of StandardStMan is not IncrementalStMan's.
-    assert_eq!(check(&table, 5, &file, room), Err(2));
+    assert_eq!(check(&table, 5, &file, room), Err(Refusal::at(2, 8)));
 }

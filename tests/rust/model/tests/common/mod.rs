@@ -1,5 +1,12 @@
 //! Files written byte by byte.
 
+use model::Refusal;
+
+/// A question that is refused with this number, at this byte.
+pub fn refused<T>(number: u8, byte: u64) -> Result<T, Refusal> {
+    Err(Refusal { number, byte })
+}
+
 pub fn uint(number: u32) -> Vec<u8> {
     number.to_be_bytes().to_vec()
 }

@@ -1,0 +1,124 @@
+//! Request lines about the samples: each named field of `table.dat` and of the
+//! managers' files with other bytes, one at a time.
+
+use crate::buckets::{BucketFile, Subject};
+use crate::hex::hex;
+use crate::layout::{Field, LENGTH, Layout, OBJECT_VERSION, Part};
+use crate::questions::Asked;
+use crate::samples;
+
+/// Other bytes in place of a field's first ones; what follows stays where it
+/// is.
+#[derive(Clone, Debug)]
+pub struct Change {
+    pub field: Field,
+    bytes: Vec<u8>,
+}
+
+impl Change {
+    /// A file with the change; the field's bytes stand there at `place`.
+    pub fn of(&self, file: &[u8], place: impl Fn(usize) -> usize) -> Vec<u8> {
+        let mut file = file.to_vec();
+        for (byte, index) in self.bytes.iter().zip(self.field.start..) {
+            file[place(index)] = *byte;
+        }
+        file
+    }
+}
+
+/// Changes of every field, in file order.
+pub fn changes(layout: &Layout) -> Vec<Change> {
+    let of_field = |field: &Field| {
+        let old = &layout.bytes[field.start..field.end];
+        let mut values = match old {
+            _ if field.is_text => texts(layout, field),
+            [_, _, _, _] => numbers(layout, field),
+            _ => [0, 1, 2, 0xFF].map(|byte| vec![byte; old.len()]).into(),
+        };
+        values.sort_unstable();
+        values.dedup();
+        values.retain(|value| !old.starts_with(value));
+        values.into_iter().map(|bytes| Change { field: *field, bytes }).collect::<Vec<_>>()
+    };
+    layout.fields.iter().flat_map(of_field).collect()
+}
+
+/// Numbers near limits and near the field's own; for an object's length, those
+/// of its header and of its container too.
+fn numbers(layout: &Layout, field: &Field) -> Vec<Vec<u8>> {
+    let old = &layout.bytes[field.start..field.end];
+    let is_old = |number: &u32| layout.number(*number) == *old;
+    let own = u32::from_be_bytes(old.try_into().expect("four bytes"));
+    let own = [own, own.swap_bytes()].into_iter().find(is_old).expect("one of both orders");
+    let mut numbers = vec![0, 1, 2, 7, 17, 65, u32::MAX, own ^ 0x8000_0000];
+    numbers.extend([own.wrapping_add(1), own.wrapping_sub(1)]);
+    if field.name == LENGTH {
+        let size = layout.field(field.of, OBJECT_VERSION, 0).end - field.start;
+        let room = layout.room(field.start, field.container);
+        numbers.extend([size, size - 1, room, room + 1].map(|length| length as u32));
+        numbers.extend([own.wrapping_add(4), own.wrapping_sub(4)]);
+    }
+    numbers.into_iter().map(|number| layout.number(number).into()).collect()
+}
+
+/// Other lengths, and another first letter.
+fn texts(layout: &Layout, field: &Field) -> Vec<Vec<u8>> {
+    let old = &layout.bytes[field.start..field.end];
+    let length = (old.len() - 4) as u32;
+    let room = layout.room(field.start + 4, field.container) as u32;
+    let near = [length.wrapping_sub(1), length + 1, length + 4];
+    let limits = [0, 64, 65, 4096, 4097, room, room + 1, u32::MAX];
+    let mut texts: Vec<Vec<u8>> =
+        near.into_iter().chain(limits).map(|length| layout.number(length).into()).collect();
+    if let Some(letter) = old.get(4) {
+        texts.push([&old[..4], &[letter ^ 0x20]].concat());
+    }
+    texts
+}
+
+/// The file of a subject after each change of what has this part.
+pub fn changed_files<F: BucketFile>(
+    subject: &Subject<F>,
+    part: Part,
+) -> impl Iterator<Item = (Change, Vec<u8>)> {
+    let file = subject.file.encode();
+    let (_, layout) = subject.file.layout_of(part);
+    changes(&layout).into_iter().map(move |change| {
+        let changed = change.of(&file, |index| subject.file.place_of(part, index));
+        (change, changed)
+    })
+}
+
+/// All lines.
+pub fn lines() -> impl Iterator<Item = String> + Send {
+    let small = (samples::small().layout(), Asked::new(&samples::small_file()));
+    let arrays = (samples::arrays().layout(), Asked::new(&samples::arrays_incremental()));
+    let tables = [small, arrays].into_iter();
+    let tables = tables.flat_map(|(layout, asked)| table_lines(&layout, &asked));
+    let standard = samples::standard_files().into_iter();
+    let incremental = samples::incremental_files().into_iter();
+    tables
+        .chain(standard.flat_map(|subject| file_lines(&subject)))
+        .chain(incremental.flat_map(|subject| file_lines(&subject)))
+}
+
+/// Mostly Description, but each question in its turn.
+fn table_lines(layout: &Layout, asked: &Asked) -> Vec<String> {
+    let line = |(turn, change): (usize, &Change)| {
+        let table = change.of(&layout.bytes, |index| index);
+        match turn % 16 {
+            0 => format!("listing {}", hex(&table)),
+            1 => format!("column {} {}", hex(&table), hex(b"TIME")),
+            2 | 3 => Asked { table, ..asked.clone() }.in_turn(turn / 16),
+            _ => format!("describe {}", hex(&table)),
+        }
+    };
+    changes(layout).iter().enumerate().map(line).collect()
+}
+
+fn file_lines<F: BucketFile>(subject: &Subject<F>) -> Vec<String> {
+    let asked = Asked::new(subject);
+    let changed = subject.file.parts().into_iter().flat_map(|part| changed_files(subject, part));
+    let line = |(turn, (_, file))| Asked { file, ..asked.clone() }.in_turn(turn);
+    changed.enumerate().map(line).collect()
+}
