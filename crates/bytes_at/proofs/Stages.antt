@@ -78,6 +78,12 @@ others-or false n at = others-blaming n at
 pub others-then : (a b : Refusal) → OthersCarry0 a → OthersCarry0 b → OthersCarry0 (a ▷ b)
 others-then a b h k = elim (ℕ-discrete (a .number) 0) [ yes e ↦ rw (goes a b e) k | no n ↦ rw (stops a b n) h ]
 
+-- of what carries a refusal, in one of two ways
+pub others-either : {A : Type 0} (refusal : A → Refusal) (b : Bool) (x y : A) → OthersCarry0 (refusal x) → OthersCarry0 (refusal y)
+    → OthersCarry0 (refusal (cond b x y))
+others-either refusal true x y h k = h
+others-either refusal false x y h k = k
+
 -- a refusal that blames no field
 pub blaming-none : (n : ℕ) → blaming n 0 ≡ record { number = n; byte = 0 }
 blaming-none n = ap (λ (x : ℕ). record { number = n; byte = x }) (neither (carriesByte n))

@@ -1,18 +1,17 @@
 -- "Others carry 0": of what refuses a file.
 -- Assumes nothing.
-use mathlib.Core.Path.{refl}
 use mathlib.Core.List.{List}
 use mathlib.Core.Bool.{Bool}
 use Prim.Native.Nat.{ℕ, zero, suc}
-use native.Mathlib.Decide.{ℕ-discrete}
-use borrow.Author.Tests.{eq-eqb, ne-eqb}
+use lib.Dec.{eqb}
 use Rattle.bytes_at.specs.declared.Refusal.{Refusal}
 use Rattle.bytes_at.specs.Stages.{OthersCarry0}
 use Rattle.bytes_at.specs.Steps.{after, _>>=_}
-use Rattle.bytes_at.proofs.Stages.{others-none, others-then, others-or, others-blaming}
+use Rattle.bytes_at.proofs.Stages.{others-none, others-then, others-or, others-blaming, others-either}
 use Rattle.aipsio_rules.specs.declared.Cursor.{Cursor}
 use Rattle.table_rules.specs.declared.Description.{Description}
 use Rattle.incremental_rules.specs.declared.HeaderFields.{HeaderFields}
+use Rattle.incremental_rules.specs.declared.Header.{Header}
 use Rattle.incremental_rules.specs.declared.Index.{Index}
 use Rattle.incremental_rules.specs.declared.Cells.{Cells}
 use Rattle.incremental_rules.specs.Header.{headed, headerIn}
@@ -23,10 +22,7 @@ use Rattle.incremental_rules.proofs.AnyCell.{turn-refused}
 headed-others : (c : Cursor) (h : HeaderFields) → OthersCarry0 (headed c h .refused)
 unfolding headed
 headed-others c h =
-    elim (ℕ-discrete (c .refused) 0) [
-      | yes e ↦ rw (eq-eqb (c .refused) 0 e) others-none
-      | no n ↦ rw (ne-eqb (c .refused) 0 n) (others-blaming (c .refused) (c .at))
-    ]
+    others-either (λ (x : Header). x .refused) (eqb (c .refused) 0) _ _ others-none (others-blaming (c .refused) (c .at))
 
 header-others : (s : List ℕ) (order big : Bool) → OthersCarry0 (headerIn s order big .refused)
 unfolding headerIn _>>=_
@@ -35,10 +31,7 @@ header-others s order big = headed-others _ _
 indexed-others : (c : Cursor) (count firsts buckets : ℕ) → OthersCarry0 (indexed c count firsts buckets .refused)
 unfolding indexed
 indexed-others c count firsts buckets =
-    elim (ℕ-discrete (c .refused) 0) [
-      | yes e ↦ rw (eq-eqb (c .refused) 0 e) others-none
-      | no n ↦ rw (ne-eqb (c .refused) 0 n) (others-blaming (c .refused) (c .at))
-    ]
+    others-either (λ (x : Index). x .refused) (eqb (c .refused) 0) _ _ others-none (others-blaming (c .refused) (c .at))
 
 index-others : (s : List ℕ) (order : Bool) (each at : ℕ) → OthersCarry0 (indexIn s order each at .refused)
 unfolding indexIn _>>=_

@@ -1,21 +1,21 @@
 -- "Others carry 0": of what refuses a file.
 -- Assumes nothing.
-use mathlib.Core.Path.{refl}
 use mathlib.Core.List.{List}
 use mathlib.Core.Bool.{Bool}
 use Prim.Native.Nat.{ℕ}
-use native.Mathlib.Decide.{ℕ-discrete}
-use borrow.Author.Tests.{eq-eqb, ne-eqb}
+use lib.Dec.{eqb}
 use Rattle.bytes_at.specs.declared.Refusal.{Refusal}
 use Rattle.bytes_at.specs.declared.Width.{Width}
 use Rattle.bytes_at.specs.Stages.{OthersCarry0}
 use Rattle.bytes_at.specs.Steps.{_>>=_}
-use Rattle.bytes_at.proofs.Stages.{others-none, others-then, others-or, others-blaming}
+use Rattle.bytes_at.proofs.Stages.{others-none, others-then, others-or, others-blaming, others-either}
 use Rattle.aipsio_rules.specs.declared.Cursor.{Cursor}
 use Rattle.table_rules.specs.declared.Description.{Description}
 use Rattle.standard_rules.specs.declared.BucketFields.{BucketFields}
 use Rattle.standard_rules.specs.declared.IndexFields.{IndexFields}
 use Rattle.standard_rules.specs.declared.Sets.{Sets}
+use Rattle.standard_rules.specs.declared.Header.{Header}
+use Rattle.standard_rules.specs.declared.Index.{Index}
 use Rattle.standard_rules.specs.Header.{headed, headerIn}
 use Rattle.standard_rules.specs.Index.{indexed, indexIn}
 use Rattle.standard_rules.specs.Check.{refusalWith, refusalOf}
@@ -23,10 +23,7 @@ use Rattle.standard_rules.specs.Check.{refusalWith, refusalOf}
 headed-others : (c : Cursor) (b : BucketFields) (i : IndexFields) → OthersCarry0 (headed c b i .refused)
 unfolding headed
 headed-others c b i =
-    elim (ℕ-discrete (c .refused) 0) [
-      | yes e ↦ rw (eq-eqb (c .refused) 0 e) others-none
-      | no n ↦ rw (ne-eqb (c .refused) 0 n) (others-blaming (c .refused) (c .at))
-    ]
+    others-either (λ (x : Header). x .refused) (eqb (c .refused) 0) _ _ others-none (others-blaming (c .refused) (c .at))
 
 header-others : (s : List ℕ) (order big : Bool) → OthersCarry0 (headerIn s order big .refused)
 unfolding headerIn _>>=_
@@ -35,10 +32,7 @@ header-others s order big = headed-others _ _ _
 indexed-others : (c : Cursor) (all : Sets) → OthersCarry0 (indexed c all .refused)
 unfolding indexed
 indexed-others c all =
-    elim (ℕ-discrete (c .refused) 0) [
-      | yes e ↦ rw (eq-eqb (c .refused) 0 e) others-none
-      | no n ↦ rw (ne-eqb (c .refused) 0 n) (others-blaming (c .refused) (c .at))
-    ]
+    others-either (λ (x : Index). x .refused) (eqb (c .refused) 0) _ _ others-none (others-blaming (c .refused) (c .at))
 
 index-others : (s : List ℕ) (order : Bool) (width : Width) (n : ℕ) → OthersCarry0 (indexIn s order width n .refused)
 unfolding indexIn _>>=_

@@ -2,17 +2,16 @@
 -- Assumes nothing.
 use mathlib.Core.List.{List}
 use Prim.Native.Nat.{ℕ}
-use native.Mathlib.Decide.{ℕ-discrete}
-use borrow.Author.Tests.{eq-eqb, ne-eqb}
+use lib.Dec.{eqb}
 use Rattle.bytes_at.specs.declared.Refusal.{Refusal}
 use Rattle.bytes_at.specs.Stages.{OthersCarry0}
 use Rattle.bytes_at.specs.Steps.{_>>=_}
-use Rattle.bytes_at.proofs.Stages.{others-none, others-then, others-or}
+use Rattle.bytes_at.proofs.Stages.{others-none, others-then, others-or, others-either}
 use Rattle.table_rules.specs.Table.{positionOr, columnNamed, positionRefusal, EveryTableByte}
 use Rattle.table_rules.proofs.Described.{described}
 
 positioned : (r : Refusal) (k : ℕ) → OthersCarry0 r → OthersCarry0 (positionRefusal (positionOr r k))
-positioned r k h = elim (ℕ-discrete (r .number) 0) [ yes e ↦ rw (eq-eqb (r .number) 0 e) others-none | no n ↦ rw (ne-eqb (r .number) 0 n) h ]
+positioned r k h = others-either positionRefusal (eqb (r .number) 0) _ _ others-none h
 
 named : (t name : List ℕ) → OthersCarry0 (positionRefusal (columnNamed t name))
 unfolding columnNamed _>>=_
