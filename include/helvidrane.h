@@ -8,6 +8,10 @@
  * its elements; a run of 0 elements may have any pointer, a null one too, and no other is null. `room` and `out` are written
  * and share no byte with each other or with anything else that is lent.
  *
+ * Byte order. table.dat is big endian. In the manager's file the numbers of the header, of the index and of IncrementalStMan's
+ * buckets are in the table's endianness, which hv_description tells (HV_DESCRIPTION_BIG_ENDIAN), and so are the cells; the links
+ * from bucket to bucket are big endian in every file.
+ *
  * Answers. A function that returns enum hv_number gives 0 and writes the numbers of its answer into `out`, or it gives the
  * number of a refusal and writes as many zeros, but for the byte. If `out` is shorter than the answer, it gets the first numbers
  * of it, as many as it holds; if it is longer, what stands behind the answer is left alone. The lengths are the constants
@@ -48,8 +52,8 @@ extern "C" {
 #endif
 
 /* The version: here, and nowhere else. */
-#define HV_VERSION_MAJOR 1
-#define HV_VERSION_MINOR 3
+#define HV_VERSION_MAJOR 2
+#define HV_VERSION_MINOR 0
 #define HV_VERSION_PATCH 0
 #define HV_IN_QUOTES(major, minor, patch) #major "." #minor "." #patch
 #define HV_QUOTED(major, minor, patch) HV_IN_QUOTES(major, minor, patch)
@@ -68,7 +72,7 @@ extern "C" {
       "fit")                                                                                                              \
     X(HV_REFUSED_FACTS, 6,                                                                                                \
       "two stated facts disagree: row counts, a column name or a sequence number twice, a sequence number above the "     \
-      "highest or unknown, endianness, or a Block's length and the entry count")                                          \
+      "highest or unknown, endianness, or a Block's length and the entry count or the number of bound columns")           \
     X(HV_REFUSED_LENGTH, 7, "an object, DMInfo or index text has a length other than its fields use")                     \
     X(HV_REFUSED_MISSING, 8, "no such column or manager, or the manager is not of the asked kind")                        \
     X(HV_REFUSED_ROW, 9, "row not below the row count")                                                                   \

@@ -56,6 +56,17 @@ pub fn open(
     crate::settle(v.value, e)
 }
 
+// The same, of a name of any length.
+pub fn open_named(s: &[u8], c: Cursor, expected: &[u8], low: usize, high: usize) -> Value
+    ensures { λ r. ⌜ r ≡ opened (now (s .entry)) c (now (expected .entry)) low high ⌝ }
+{
+    let len = crate::numbers::uint(s, c);
+    let d = crate::strings::name(s, len.next, expected);
+    let v = crate::numbers::version(s, d, low, high);
+    let e = enter(v.next, c, len.value);
+    crate::settle(v.value, e)
+}
+
 // Out of an object whose last field is read: 7, at its header, where bytes are left over.
 pub fn close(c: Cursor, outer: Cursor) -> Cursor
     ensures { λ r. ⌜ r ≡ closed c outer ⌝ }

@@ -1,7 +1,7 @@
 // Strings and names in AipsIO (Note 260, section 2): a length and its bytes, one field.
 ghost use mathlib.Core.Path.{_≡_};
 ghost use Prim.Native.Nat.{_<_, _≤_};
-ghost use Rattle.aipsio_rules.specs.Field.{textAt, stringAt, nameAt};
+ghost use Rattle.aipsio_rules.specs.Field.{textAt, containerOf, stringAt, nameAt};
 ghost use Rattle.bytes_at.specs.Joined.{Joins, endBytes, joinedText};
 use aipsio_rules::Cursor;
 use aipsio_rules::Text;
@@ -41,6 +41,23 @@ pub fn any_string(s: &[u8], c: Cursor) -> Text
             big: big,
             refused: 0,
         },
+    }
+}
+
+// Into the bytes of a String, as the container of what stands in them.
+pub fn container(t: Text) -> Cursor
+    ensures { λ r. ⌜ r ≡ containerOf t ⌝ }
+{
+    let next = t.next;
+    let refused = next.refused;
+    if refused != 0 {
+        return next;
+    }
+    Cursor {
+        at: t.start,
+        end: next.at,
+        big: next.big,
+        refused: 0,
     }
 }
 

@@ -13,7 +13,7 @@ use Rattle.bytes_at.specs.Steps.{after, _>>=_}
 use Rattle.aipsio_rules.specs.declared.Cursor.{Cursor}
 use Rattle.aipsio_rules.specs.declared.Value.{Value}
 use Rattle.aipsio_rules.specs.declared.Text.{Text}
-use Rattle.aipsio_rules.specs.Field.{latched, skipped, skippedEach, judged, settled, sizedAt, uintAt, rangedAt, agreed, textBefore, textAt, stringAt, nameAt}
+use Rattle.aipsio_rules.specs.Field.{latched, skipped, skippedEach, judged, settled, sizedAt, uintAt, rangedAt, agreed, textBefore, textAt, containerOf, stringAt, nameAt}
 
 -- nothing was refused yet
 abbrev pub Clean : Cursor → Type 0
@@ -125,6 +125,10 @@ agreed-keeps s c n = ranged-reads s c 4 n n 6 .keeps
 pub any-string-reads : (s : List ℕ) (c : Cursor) → ReadsText c (textAt s c)
 unfolding textAt _>>=_
 any-string-reads s c = text-reads _ (skipped-keeps c _)
+
+pub container-keeps : (t : Text) → Keeps (t .next) (containerOf t)
+unfolding containerOf
+container-keeps t = latched-keeps (t .next) _
 
 pub string-reads : (s : List ℕ) (c : Cursor) (low high : ℕ) → ReadsText c (stringAt s c low high)
 unfolding stringAt _>>=_

@@ -9,7 +9,7 @@ use lib.Dec.{eqb, leb, leb→le, le→leb}
 use borrow.Author.Tests.{eq-eqb, ne-eqb, le-leb, lt-leb}
 use Rattle.bytes_at.proofs.Tests.{alike}
 use Rattle.aipsio_rules.specs.declared.Cursor.{Cursor}
-use Rattle.aipsio_rules.specs.Field.{refusedAt, movedTo, leftIn, skipped, skippedEach, judged, settled, textBefore}
+use Rattle.aipsio_rules.specs.Field.{refusedAt, movedTo, leftIn, skipped, skippedEach, judged, settled, textBefore, containerOf}
 use Rattle.aipsio_rules.proofs.Kept.{Clean}
 
 module _ (c : Cursor) (h : Clean c) where
@@ -23,6 +23,10 @@ module _ (c : Cursor) (h : Clean c) where
   pub text-on : (n : ℕ) → record { start = c .at - n; len = n; next = c } ≡ textBefore c n
   unfolding textBefore
   text-on n = rw goes
+
+  pub container-on : (start len : ℕ) → record { at = start; end = c .at; big = c .big; refused = 0 } ≡ containerOf (record { start = start; len = len; next = c })
+  unfolding containerOf
+  container-on start len = rw goes
 
   pub judge-on : (from : ℕ) (ok : Bool) (n : ℕ) → ok ≡ true → c ≡ judged c from ok n
   unfolding judged

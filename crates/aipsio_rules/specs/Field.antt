@@ -122,6 +122,10 @@ textAt s c = do
   d ← skipped c (4 + n)
   textBefore d n
 
+-- into the bytes of a String: they are the container then
+unfoldable pub containerOf : Text → Cursor
+containerOf t = latched (t .next) (record { at = t .start; end = t .next .at; big = t .next .big; refused = 0 })
+
 -- a String whose length lies in a range, else 4
 unfoldable pub stringAt : List ℕ → Cursor → ℕ → ℕ → Text
 stringAt s c low high = do

@@ -25,15 +25,22 @@ pub fn add(seen: &mut [u8; 4096], nb: usize, b: usize) -> bool
     true
 }
 
-// Marks the n buckets whose numbers stand in the text from `from` on.
-pub fn add_numbers(seen: &mut [u8; 4096], nb: usize, text: &[u8], from: usize, n: usize) -> bool
+// Marks the n buckets whose numbers stand in the text from `from` on, in a table of the endianness given.
+pub fn add_numbers(
+    seen: &mut [u8; 4096],
+    nb: usize,
+    text: &[u8],
+    big: bool,
+    from: usize,
+    n: usize,
+) -> bool
     requires { ⌜ (nb ≤ 4096) × (from + n * 4 ≤ length (now text)) ⌝ }
-    ensures { λ r. ⌜ (r ≡ allUnmarked nb (now (seen .entry)) (numbersAt true 4 (now (text .entry)) from n)) × (r ≡ true → now (seen .exit) ≡ marked (now (seen .entry)) (numbersAt true 4 (now (text .entry)) from n)) ⌝ }
+    ensures { λ r. ⌜ (r ≡ allUnmarked nb (now (seen .entry)) (numbersAt big 4 (now (text .entry)) from n)) × (r ≡ true → now (seen .exit) ≡ marked (now (seen .entry)) (numbersAt big 4 (now (text .entry)) from n)) ⌝ }
 {
     let mut at = from;
     let mut left = n;
     while 0 < left {
-        if !add(seen, nb, bytes_at::word(text, at, true)) {
+        if !add(seen, nb, bytes_at::word(text, at, big)) {
             return false;
         }
         at += 4;

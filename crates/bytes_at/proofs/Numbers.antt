@@ -151,6 +151,31 @@ part-number s start n k i e h = e ∙ ap (bigFrom 0 k) (sym (drop-drop i start s
 pub part-first : (s : List ℕ) (start n k : ℕ) {x : ℕ} → x ≡ uintOf true k s start → k ≤ n → x ≡ uintOf true k (take n (drop start s)) 0
 part-first s start n k e h = let z : start ≡ start + 0 = omega arith in part-number s start n k 0 (e ∙ ap (uintOf true k s) z) (omega arith)
 
+-- what is read inside a text is read the same where more bytes follow it
+big-more : (a n : ℕ) (l z : List ℕ) → n ≤ length l → bigFrom a n (l ++ z) ≡ bigFrom a n l
+unfolding bigFrom
+big-more a zero l z h = refl
+big-more a (suc n) [] z h = absurd (omega arith)
+big-more a (suc n) (x ∷ l) z h = big-more (a * 256 + x) n l z (omega arith)
+
+little-more : (a unit n : ℕ) (l z : List ℕ) → n ≤ length l → littleFrom a unit n (l ++ z) ≡ littleFrom a unit n l
+unfolding littleFrom
+little-more a unit zero l z h = refl
+little-more a unit (suc n) [] z h = absurd (omega arith)
+little-more a unit (suc n) (x ∷ l) z h = little-more (a + x * unit) (unit * 256) n l z (omega arith)
+
+drop-more : (at : ℕ) (s z : List ℕ) → at ≤ length s → drop at (s ++ z) ≡ drop at s ++ z
+drop-more zero s z h = refl
+drop-more (suc at) [] z h = absurd (omega arith)
+drop-more (suc at) (x ∷ s) z h = drop-more at s z (omega arith)
+
+pub uint-more : (big : Bool) (n : ℕ) (s z : List ℕ) (at : ℕ) → at + n ≤ length s → uintOf big n (s ++ z) at ≡ uintOf big n s at
+unfolding uintOf
+uint-more true n s z at h =
+    ap (bigFrom 0 n) (drop-more at s z (omega arith)) ∙ big-more 0 n (drop at s) z (simp length-drop (omega arith))
+uint-more false n s z at h =
+    ap (littleFrom 0 1 n) (drop-more at s z (omega arith)) ∙ little-more 0 1 n (drop at s) z (simp length-drop (omega arith))
+
 -- the bytes of a number
 pub bytes-length : (n x : ℕ) → length (bigBytes n x) ≡ n
 bytes-length zero x = refl

@@ -1,7 +1,7 @@
--- RULES.md 11.2: the small file's cases A to L, as one list. Each is asked of the bytes of both files with the definitions that answer the
+-- RULES.md 11.2: the small file's cases A to L, as one list, and those of the little endian one. Each is asked of the bytes of both files with the definitions that answer the
 -- questions, and with an index room of 140 bytes, more than the index texts of both files take (134 and 126 bytes).
 use mathlib.Core.Path.{_≡_}
-use mathlib.Core.Bool.{Bool, true, _&&_}
+use mathlib.Core.Bool.{Bool, true, false, _&&_}
 use mathlib.Core.List.{List, [], _∷_, _++_}
 use Prim.Native.Nat.{ℕ, _*_}
 use lib.ListN.{take, drop, set, replicate}
@@ -15,7 +15,7 @@ use Rattle.lookup_rules.specs.declared.Asked.the-variants.{Position}
 use Rattle.lookup_rules.specs.declared.Question.{Question}
 use Rattle.lookup_rules.specs.declared.Question.the-variants.{Check, Place, View}
 use Rattle.lookup_rules.specs.Questions.{noPlan, samePlan, answerOf, roomAfter}
-use Rattle.cases.specs.SmallFile.{tableDat, f0, boolsDat, boolsF0}
+use Rattle.cases.specs.SmallFile.{tableDat, f0, littleDat, littleF0, boolsDat, boolsF0}
 
 -- positions of the columns
 abbrev SCAN : ℕ
@@ -51,57 +51,89 @@ refuses t f q n =
     eqb (a .refused .number) n && eqb (a .refused .byte) 0 && samePlan (a .plan) noPlan && eqb (a .first) 0 && eqb (a .count) 0 && eqb (a .looks) 0 && eqb (a .entries) 0
     && sameBytes (roomAfter t f q roomLength) (replicate 140 0)
 
--- table.dat with another offset of TIME: its last byte, 933
-abbrev timeAt : ℕ → List ℕ
-timeAt offset = set tableDat 933 offset
+-- The small file in either byte order: table.dat and table.f0, and where the low bytes stand of TIME's offset, of the second last row
+-- and of the number of index buckets.
+pub record SmallFile : Type 0 where
+  pub big : Bool
+  pub table : List ℕ
+  pub file : List ℕ
+  pub offsetAt : ℕ
+  pub lastAt : ℕ
+  pub bucketsAt : ℕ
+
+abbrev inBig : SmallFile
+inBig = record { big = true; table = tableDat; file = f0; offsetAt = 933; lastAt = 760; bucketsAt = 53 }
+
+abbrev inLittle : SmallFile
+inLittle = record { big = false; table = littleDat; file = littleF0; offsetAt = 978; lastAt = 757; bucketsAt = 50 }
+
+-- table.dat with another offset of TIME
+abbrev timeAt : SmallFile → ℕ → List ℕ
+timeAt s offset = set (s .table) (s .offsetAt) offset
 
 -- table.dat with another row count: byte 24, in the Table header, and byte 816, in the ColumnSet
-abbrev withRows : ℕ → List ℕ
-withRows rows = set (set tableDat 24 rows) 816 rows
+abbrev withRows : SmallFile → ℕ → List ℕ
+withRows s rows = set (set (s .table) 24 rows) 816 rows
 
--- table.f0 with another second last row: byte 760
-abbrev withLast : ℕ → List ℕ
-withLast last = set f0 760 last
+-- table.f0 with another second last row
+abbrev withLast : SmallFile → ℕ → List ℕ
+withLast s last = set (s .file) (s .lastAt) last
 
--- table.f0 with another number of index buckets: byte 53
-abbrev withIndexBuckets : ℕ → List ℕ
-withIndexBuckets n = set f0 53 n
+-- table.f0 with another number of index buckets
+abbrev withIndexBuckets : SmallFile → ℕ → List ℕ
+withIndexBuckets s n = set (s .file) (s .bucketsAt) n
 
 -- the refusal of the header of a file that ends after n bytes
-abbrev headerOf : ℕ → Refusal
-headerOf n = headerAt (take n f0) true .refused
+abbrev headerOf : SmallFile → ℕ → Refusal
+headerOf s n = headerAt (take n (s .file)) (s .big) .refused
 
+-- A to K
+unfoldable pub casesOf : SmallFile → List Bool
+casesOf s =
+    -- A: TIME row 5 is bytes 537 to 544
+    gives (s .table) (s .file) 134 (cellIn 5 TIME) (8 * 537) 64
+    -- B: TIME row 2 begins at byte 673, in bucket 2
+    ∷ gives (s .table) (s .file) 134 (cellIn 2 TIME) (8 * 673) 64
+    -- C: FLAG row 5 is bit 4,225
+    ∷ gives (s .table) (s .file) 134 (cellIn 5 FLAG) 4225 1
+    -- D: SCAN row 6 begins at byte 520
+    ∷ gives (s .table) (s .file) 134 (cellIn 6 SCAN) (8 * 520) 32
+    -- E: row 7 gives 9
+    ∷ refuses (s .table) (s .file) (cellIn 7 TIME) 9
+    -- F: view of FLAG gives 14
+    ∷ refuses (s .table) (s .file) (View 5 (Position FLAG)) 14
+    -- G: TIME at 16 gives 11
+    ∷ refuses (timeAt s 16) (s .file) (cellIn 5 TIME) 11
+    -- H: last rows 3, 8 with 9 rows give 11
+    ∷ refuses (withRows s 9) (withLast s 8) (cellIn 5 TIME) 11
+    -- I: index number 2 for three links gives 10
+    ∷ refuses (s .table) (withIndexBuckets s 2) (cellIn 5 TIME) 10
+    -- J: TIME at 32 is accepted, at 33 gives 11
+    ∷ gives (timeAt s 32) (s .file) 134 (Check 0) 0 0
+    ∷ gives (timeAt s 32) (s .file) 134 (cellIn 0 TIME) (8 * 672) 64
+    ∷ refuses (timeAt s 33) (s .file) (cellIn 0 TIME) 11
+    -- K: the StandardStMan header object is 70 bytes, 74 with mark; where only its end is missing, it is blamed at its header, byte 4
+    ∷ eqb (uintOf (s .big) 4 (s .file) 4) 70
+    ∷ (eqb (headerOf s 74 .number) 0 && eqb (headerOf s 73 .number) 1 && eqb (headerOf s 73 .byte) 4)
+    ∷ []
+
+-- A to L
 unfoldable pub cases : List Bool
 cases =
-    -- A: TIME row 5 is bytes 537 to 544
-    gives tableDat f0 134 (cellIn 5 TIME) (8 * 537) 64
-    -- B: TIME row 2 begins at byte 673, in bucket 2
-    ∷ gives tableDat f0 134 (cellIn 2 TIME) (8 * 673) 64
-    -- C: FLAG row 5 is bit 4,225
-    ∷ gives tableDat f0 134 (cellIn 5 FLAG) 4225 1
-    -- D: SCAN row 6 begins at byte 520
-    ∷ gives tableDat f0 134 (cellIn 6 SCAN) (8 * 520) 32
-    -- E: row 7 gives 9
-    ∷ refuses tableDat f0 (cellIn 7 TIME) 9
-    -- F: view of FLAG gives 14
-    ∷ refuses tableDat f0 (View 5 (Position FLAG)) 14
-    -- G: TIME at 16 gives 11
-    ∷ refuses (timeAt 16) f0 (cellIn 5 TIME) 11
-    -- H: last rows 3, 8 with 9 rows give 11
-    ∷ refuses (withRows 9) (withLast 8) (cellIn 5 TIME) 11
-    -- I: index number 2 for three links gives 10
-    ∷ refuses tableDat (withIndexBuckets 2) (cellIn 5 TIME) 10
-    -- J: TIME at 32 is accepted, at 33 gives 11
-    ∷ gives (timeAt 32) f0 134 (Check 0) 0 0
-    ∷ gives (timeAt 32) f0 134 (cellIn 0 TIME) (8 * 672) 64
-    ∷ refuses (timeAt 33) f0 (cellIn 0 TIME) 11
-    -- K: the StandardStMan header object is 70 bytes, 74 with mark; where only its end is missing, it is blamed at its header, byte 4
-    ∷ eqb (uintOf true 4 f0 4) 70
-    ∷ (eqb (headerOf 74 .number) 0 && eqb (headerOf 73 .number) 1 && eqb (headerOf 73 .byte) 4)
+    casesOf inBig
     -- L: 8 Bools per row, row 1, offset 0, bucket 0: bits 4,104 to 4,111
-    ∷ gives boolsDat boolsF0 126 (cellIn 1 0) 4104 8
-    ∷ []
+    ++ (gives boolsDat boolsF0 126 (cellIn 1 0) 4104 8 ∷ [])
+
+-- A to K once more, of the little endian file; and what is no longer read: its table with the big endian file, whose Bool says little
+-- endian (byte 29)
+unfoldable pub littleCases : List Bool
+littleCases =
+    casesOf inLittle
+    ++ ((eqb (headerAt (set f0 29 0) false .refused .number) 1 && eqb (headerAt (set f0 29 0) false .refused .byte) 8) ∷ [])
 
 -- Every case comes out as RULES.md 11.2 says.
 abbrev pub Right : Type 0
 Right = all (λ (b : Bool). b) cases ≡ true
+
+abbrev pub LittleRight : Type 0
+LittleRight = all (λ (b : Bool). b) littleCases ≡ true

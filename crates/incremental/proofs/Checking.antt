@@ -43,10 +43,10 @@ area-passed refused h f b e y = let z = rw e at y in record {
 }
 
 -- the buckets of an index that is right lie in the file
-pub buckets-inside : (rows : ℕ) (f : List ℕ) (h : Header) (x : Index) {m : Bool} → Area f (h .size) (h .count) → m ≡ indexFits rows f h x → m ≡ true
-    → (i : ℕ) → i < x .count → bucketStart (h .size) (numberIn true 4 f (x .buckets) i) + h .size ≤ length f
-buckets-inside rows f h x a e z i l =
-    omega (arith, step (h .size) (index-read rows f h x (passed (sym e ∙ z)) .in-range i l), a .holds)
+pub buckets-inside : (rows : ℕ) (big : Bool) (f : List ℕ) (h : Header) (x : Index) {m : Bool} → Area f (h .size) (h .count) → m ≡ indexFits rows big f h x → m ≡ true
+    → (i : ℕ) → i < x .count → bucketStart (h .size) (numberIn big 4 f (x .buckets) i) + h .size ≤ length f
+buckets-inside rows big f h x a e z i l =
+    omega (arith, step (h .size) (index-read rows big f h x (passed (sym e ∙ z)) .in-range i l), a .holds)
 
 -- ---- the whole refusal, and what is answered. h is the header that was read, and n, x, g, m, cells and found what was found on
 -- the way.
@@ -58,13 +58,13 @@ module _ (d : Description) (sequence : ℕ) (f : List ℕ) (refused : Refusal) (
   freed = freeOk f (h .size) (h .count) (h .«free_count») (h .«first_free»)
 
   abbrev right : Index → Bool
-  right x = indexFits (d .rows) f h x
+  right x = indexFits (d .rows) (d .big) f h x
 
   abbrev searched : Index → Refusal
   searched x = searchOf (d .big) f (h .size) x (cellsOf d sequence 0) 0 .refused
 
   staged : refusalOf d sequence f refused
-      ≡ beforeIndex refused h (length f) ▷ (indexOf f h .refused ▷ (orNo freed 10 ▷ (orNo (right (indexOf f h)) 11 ▷ searched (indexOf f h))))
+      ≡ beforeIndex refused h (length f) ▷ (indexOf f (d .big) h .refused ▷ (orNo freed 10 ▷ (orNo (right (indexOf f (d .big) h)) 11 ▷ searched (indexOf f (d .big) h))))
   unfolding refusalOf beforeIndex
   staged = rw e (sym (rw (regroup, regroup)))
 
@@ -75,7 +75,7 @@ module _ (d : Description) (sequence : ℕ) (f : List ℕ) (refused : Refusal) (
   pub out-first : (n : Refusal) {r : Checked} → n ≡ beforeIndex refused h (length f) → (n .number ≡ 0 → ⊥) → r ≡ refusedFile n → Says r
   out-first n q z p = out n (staged ∙ rw (← q) (stops n _ z)) z p
 
-  module _ {n : Refusal} (q : n ≡ beforeIndex refused h (length f)) (z : n .number ≡ 0) {x : Index} (y : x ≡ indexOf f h) where
+  module _ {n : Refusal} (q : n ≡ beforeIndex refused h (length f)) (z : n .number ≡ 0) {x : Index} (y : x ≡ indexOf f (d .big) h) where
     after-first : refusalOf d sequence f refused ≡ x .refused ▷ (orNo freed 10 ▷ (orNo (right x) 11 ▷ searched x))
     after-first = staged ∙ goes _ _ (rw q at z) ∙ rw y
 

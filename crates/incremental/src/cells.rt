@@ -2,7 +2,6 @@
 // 6.5).
 ghost use Prim.Native.Nat.{_≤_, ℕ, _+_, _<_};
 ghost use lib.ListN.{length};
-ghost use mathlib.Core.Bool.{true};
 ghost use mathlib.Core.Path.{_≡_};
 ghost use Rattle.incremental.specs.Bounds.{IndexInside};
 ghost use Rattle.standard_rules.specs.Header.{bucketStart};
@@ -18,7 +17,7 @@ use incremental_rules::Index;
 pub fn find_cell(f: &[u8], big: bool, size: usize, x: Index, cells: Cells, row: usize) -> Found
     requires { ⌜ (size ≤ 1048576) × (cells .count ≤ 64) ⌝ }
     requires { ⌜ IndexInside (length (now f)) 4 x ⌝ }
-    requires { ⌜ ((i : ℕ) → i < x .count → bucketStart size (numberIn true 4 (now f) (x .buckets) i) + size ≤ length (now f)) ⌝ }
+    requires { ⌜ ((i : ℕ) → i < x .count → bucketStart size (numberIn big 4 (now f) (x .buckets) i) + size ≤ length (now f)) ⌝ }
     ensures { λ r. ⌜ r ≡ searchOf big (now (f .entry)) size x cells row ⌝ }
     ensures bounded { λ r. ⌜ (r .start ≤ 4503599627371008) × (r .offset ≤ 1048576) ⌝ }
 {
@@ -28,9 +27,9 @@ pub fn find_cell(f: &[u8], big: bool, size: usize, x: Index, cells: Cells, row: 
     let mut offset = 0;
     let mut i = 0;
     while i < n {
-        let b = bytes_at::word(f, x.buckets + i * 4, true);
-        let first = bytes_at::word(f, x.firsts + i * 4, true);
-        let past = bytes_at::word(f, x.firsts + (i + 1) * 4, true);
+        let b = bytes_at::word(f, x.buckets + i * 4, big);
+        let first = bytes_at::word(f, x.firsts + i * 4, big);
+        let past = bytes_at::word(f, x.firsts + (i + 1) * 4, big);
         let at = 512 + b * size;
         let rows = bytes_at::minus(past, first);
         let local = bytes_at::minus(row, first);

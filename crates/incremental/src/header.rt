@@ -10,14 +10,14 @@ use incremental_rules::Header;
 use incremental_rules::HeaderFields;
 
 // From the object's header to the first free bucket.
-fn read_fields(s: &[u8], c: Cursor, big: bool) -> HeaderFields
-    ensures { λ r. ⌜ r ≡ fieldsAt (now (s .entry)) c big ⌝ }
+fn read_fields(s: &[u8], c: Cursor) -> HeaderFields
+    ensures { λ r. ⌜ r ≡ fieldsAt (now (s .entry)) c ⌝ }
     ensures words { λ r. ⌜ (r .«free_count» < 4294967296) × (r .«first_free» < 4294967296) ⌝ }
 {
     // IncrementalStMan
     let o = aipsio::objects::open(s, c, 16, 0x496e6372656d656e, 0x74616c53744d616e, 5, 5);
     let flag = aipsio::numbers::flag(s, o.next);
-    let same = buckets::file::same_endian(flag.value, big);
+    let same = buckets::file::same_endian(flag.value, c.big);
     let d = aipsio::judge(flag.next, o.next.at, same, 6);
     let size = aipsio::numbers::number(s, d, Width::Four, 16, 1048576);
     let count = aipsio::numbers::number(s, size.next, Width::Four, 0, 4096);
@@ -58,7 +58,7 @@ fn answer_header(c: Cursor, h: HeaderFields) -> Header
     }
 }
 
-// The header of a file, in a table of the endianness given.
+// The header of a file, in a table of the endianness given, which is the header's own.
 pub fn read_header(f: &[u8], big: bool) -> Header
     ensures { λ r. ⌜ r ≡ headerAt (now (f .entry)) big ⌝ }
     ensures bounded { λ r. ⌜ HeaderBounds r ⌝ }
@@ -68,11 +68,11 @@ pub fn read_header(f: &[u8], big: bool) -> Header
     let start = Cursor {
         at: 0,
         end: room,
-        big: true,
+        big: big,
         refused: 0,
     };
     let m = aipsio::numbers::mark(f, start);
-    let h = read_fields(f, m, big);
+    let h = read_fields(f, m);
     let e = aipsio::objects::close(h.next, m);
     answer_header(e, h)
 }

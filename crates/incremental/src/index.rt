@@ -2,7 +2,6 @@
 ghost use Prim.Native.Nat.{_+_, _*_, _≤_};
 ghost use lib.ListN.{length};
 ghost use mathlib.Core.Path.{_≡_};
-ghost use mathlib.Core.Bool.{true};
 ghost use mathlib.Core.List.{_++_};
 ghost use Rattle.buckets.specs.Area.{Area};
 ghost use Rattle.standard_rules.specs.Index.{links};
@@ -13,10 +12,11 @@ ghost use Rattle.incremental.specs.Bounds.{IndexInside};
 use incremental_rules::Header;
 use incremental_rules::Index;
 
-// Whether the n buckets whose numbers stand in the file from a place on, and k free buckets from b on, are in range and all
+// Whether the n buckets whose numbers stand in the file from a place on, in the table's endianness, and k free buckets from b on, are in range and all
 // different.
 pub fn buckets_apart(
     f: &[u8],
+    big: bool,
     size: usize,
     nb: usize,
     from: usize,
@@ -26,28 +26,28 @@ pub fn buckets_apart(
 ) -> bool
     requires { ⌜ Area (now f) size nb ⌝ }
     requires { ⌜ from + n * 4 ≤ length (now f) ⌝ }
-    ensures { λ r. ⌜ r ≡ allApart nb (numbersAt true 4 (now (f .entry)) from n ++ links (now (f .entry)) size k b) ⌝ }
+    ensures { λ r. ⌜ r ≡ allApart nb (numbersAt big 4 (now (f .entry)) from n ++ links (now (f .entry)) size k b) ⌝ }
 {
     let mut seen = [0u8; 4096];
-    if !buckets::marks::add_numbers(&mut seen, nb, f, from, n) {
+    if !buckets::marks::add_numbers(&mut seen, nb, f, big, from, n) {
         return false;
     }
     buckets::marks::add_chain(&mut seen, nb, f, size, k, b)
 }
 
 // Whether the n + 1 first rows that stand in the file from a place on begin with 0, rise strictly and end at the row count.
-pub fn rows_rise(f: &[u8], from: usize, n: usize, rows: usize) -> bool
+pub fn rows_rise(f: &[u8], big: bool, from: usize, n: usize, rows: usize) -> bool
     requires { ⌜ from + (n + 1) * 4 ≤ length (now f) ⌝ }
-    ensures { λ r. ⌜ r ≡ firstsFit rows (numbersAt true 4 (now (f .entry)) from (n + 1)) ⌝ }
+    ensures { λ r. ⌜ r ≡ firstsFit rows (numbersAt big 4 (now (f .entry)) from (n + 1)) ⌝ }
 {
-    if bytes_at::word(f, from, true) != 0 {
+    if bytes_at::word(f, from, big) != 0 {
         return false;
     }
     let mut at = from + 4;
     let mut left = n;
     let mut last = 0;
     while 0 < left {
-        let v = bytes_at::word(f, at, true);
+        let v = bytes_at::word(f, at, big);
         if v <= last {
             return false;
         }
@@ -59,13 +59,14 @@ pub fn rows_rise(f: &[u8], from: usize, n: usize, rows: usize) -> bool
 }
 
 // Whether the index is right: its bucket numbers and its first rows.
-pub fn index_fits(f: &[u8], h: Header, x: Index, rows: usize) -> bool
+pub fn index_fits(f: &[u8], big: bool, h: Header, x: Index, rows: usize) -> bool
     requires { ⌜ Area (now f) (h .size) (h .count) ⌝ }
     requires { ⌜ IndexInside (length (now f)) 4 x ⌝ }
-    ensures { λ r. ⌜ r ≡ indexFits rows (now (f .entry)) h x ⌝ }
+    ensures { λ r. ⌜ r ≡ indexFits rows big (now (f .entry)) h x ⌝ }
 {
     if !buckets_apart(
         f,
+        big,
         h.size,
         h.count,
         x.buckets,
@@ -75,5 +76,5 @@ pub fn index_fits(f: &[u8], h: Header, x: Index, rows: usize) -> bool
     ) {
         return false;
     }
-    rows_rise(f, x.firsts, x.count, rows)
+    rows_rise(f, big, x.firsts, x.count, rows)
 }

@@ -64,7 +64,7 @@ pub fn check(
     if before.number != 0 {
         return refuse(before);
     }
-    let x = crate::text::read_index(f, 512 + h.count * h.size);
+    let x = crate::text::read_index(f, d.big, 512 + h.count * h.size);
     let own = x.refused;
     if own.number != 0 {
         return refuse(own);
@@ -75,7 +75,7 @@ pub fn check(
             byte: 0,
         });
     }
-    if !crate::index::index_fits(f, h, x, d.rows) {
+    if !crate::index::index_fits(f, d.big, h, x, d.rows) {
         return refuse(Refusal {
             number: 11,
             byte: 0,

@@ -28,15 +28,16 @@ fn answer_index(c: Cursor, count: usize, firsts: usize, buckets: usize) -> Index
     }
 }
 
-// The ISMIndex with its mark, from a place of the file on. Where it is not refused, both its lists lie in the file.
-pub fn read_index(f: &[u8], at: usize) -> Index
-    ensures { λ r. ⌜ r ≡ indexAt (now (f .entry)) at ⌝ }
+// The ISMIndex with its mark, from a place of the file on, in a table of the endianness given. Where it is not refused, both its
+// lists lie in the file.
+pub fn read_index(f: &[u8], big: bool, at: usize) -> Index
+    ensures { λ r. ⌜ r ≡ indexAt (now (f .entry)) big at ⌝ }
     ensures inside { λ r. ⌜ (r .refused .number ≡ 0 → IndexInside (length (now (f .entry))) 4 r) ⌝ }
 {
     let start = Cursor {
         at: at,
         end: f.len(),
-        big: true,
+        big: big,
         refused: 0,
     };
     let m = aipsio::numbers::mark(f, start);

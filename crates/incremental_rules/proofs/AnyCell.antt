@@ -51,8 +51,8 @@ module _ (big : Bool) (f : List ℕ) (size : ℕ) (x : Index) where
   -- what bucket i of the index is refused with
   abbrev refusedIn : Cells → ℕ → ℕ → Refusal
   refusedIn cells row i =
-      let first = numberIn true 4 f (x .firsts) i in
-      refusalIn (bucketAt f (bucketStart size (numberIn true 4 f (x .buckets) i)) size big (numberIn true 4 f (x .firsts) (i + 1) - first) (row - first) (cells .column) (cells .bytes) (cells .count) .next)
+      let first = numberIn big 4 f (x .firsts) i in
+      refusalIn (bucketAt f (bucketStart size (numberIn big 4 f (x .buckets) i)) size big (numberIn big 4 f (x .firsts) (i + 1) - first) (row - first) (cells .column) (cells .bytes) (cells .count) .next)
 
   pub turn-refused : (cells : Cells) (row : ℕ) (found : Found) (i : ℕ) → bucketInto big f size x cells row found i .refused ≡ found .refused ▷ refusedIn cells row i
   unfolding bucketInto _>>=_

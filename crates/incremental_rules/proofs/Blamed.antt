@@ -14,7 +14,7 @@ use Rattle.incremental_rules.specs.declared.HeaderFields.{HeaderFields}
 use Rattle.incremental_rules.specs.declared.Header.{Header}
 use Rattle.incremental_rules.specs.declared.Index.{Index}
 use Rattle.incremental_rules.specs.declared.Cells.{Cells}
-use Rattle.incremental_rules.specs.Header.{headed, headerIn}
+use Rattle.incremental_rules.specs.Header.{headed, headerAt}
 use Rattle.incremental_rules.specs.Index.{indexed, indexIn}
 use Rattle.incremental_rules.specs.Check.{bucketInto, nothing, searchOf, refusalOf}
 use Rattle.incremental_rules.proofs.AnyCell.{turn-refused}
@@ -24,18 +24,18 @@ unfolding headed
 headed-others c h =
     others-either (λ (x : Header). x .refused) (eqb (c .refused) 0) _ _ others-none (others-blaming (c .refused) (c .at))
 
-header-others : (s : List ℕ) (order big : Bool) → OthersCarry0 (headerIn s order big .refused)
-unfolding headerIn _>>=_
-header-others s order big = headed-others _ _
+header-others : (s : List ℕ) (big : Bool) → OthersCarry0 (headerAt s big .refused)
+unfolding headerAt _>>=_
+header-others s big = headed-others _ _
 
 indexed-others : (c : Cursor) (count firsts buckets : ℕ) → OthersCarry0 (indexed c count firsts buckets .refused)
 unfolding indexed
 indexed-others c count firsts buckets =
     others-either (λ (x : Index). x .refused) (eqb (c .refused) 0) _ _ others-none (others-blaming (c .refused) (c .at))
 
-index-others : (s : List ℕ) (order : Bool) (each at : ℕ) → OthersCarry0 (indexIn s order each at .refused)
+index-others : (s : List ℕ) (big : Bool) (each at : ℕ) → OthersCarry0 (indexIn s big each at .refused)
 unfolding indexIn _>>=_
-index-others s order each at = indexed-others _ _ _ _
+index-others s big each at = indexed-others _ _ _ _
 
 module _ (big : Bool) (f : List ℕ) (size : ℕ) (x : Index) (cells : Cells) (row : ℕ) where
   turns-others : (n : ℕ) → OthersCarry0 (after (bucketInto big f size x cells row) nothing n .refused)
@@ -53,7 +53,7 @@ pub refusal-others : (d : Description) (sequence : ℕ) (f : List ℕ) (refused 
 unfolding refusalOf
 refusal-others d sequence f refused h =
     others-then _ _ h
-    (others-then _ _ (header-others _ _ _)
+    (others-then _ _ (header-others _ _)
     (others-then _ _ (others-or _ 1 _)
     (others-then _ _ (index-others _ _ _ _)
     (others-then _ _ (others-or _ 10 _)

@@ -22,7 +22,7 @@ use Rattle.incremental_rules.specs.declared.HeaderFields.{HeaderFields}
 use Rattle.incremental_rules.specs.declared.Header.{Header}
 use Rattle.incremental_rules.specs.declared.Index.{Index}
 use Rattle.incremental_rules.specs.declared.Cells.{Cells}
-use Rattle.incremental_rules.specs.Header.{fieldsAt, headed, headerIn, headerAt}
+use Rattle.incremental_rules.specs.Header.{fieldsAt, headed, headerAt}
 use Rattle.incremental_rules.specs.Index.{indexOf}
 use Rattle.incremental_rules.specs.Bucket.{cellsOf}
 use Rattle.incremental_rules.specs.Check.{bucketInto, nothing, searchOf, refusalOf, Accepted, AcceptedExactly}
@@ -32,17 +32,17 @@ use Rattle.incremental_rules.proofs.Search.{bucketIn}
 use Rattle.incremental_rules.proofs.Numbers.{index-read, index-passes}
 
 -- ---- no header states more than 4,096 buckets
-fields-few : (s : List ℕ) (c : Cursor) (big : Bool) → fieldsAt s c big .count ≤ 4096
+fields-few : (s : List ℕ) (c : Cursor) → fieldsAt s c .count ≤ 4096
 unfolding fieldsAt _>>=_
-fields-few s c big = ranged-le s _ 4 0 4096 3
+fields-few s c = ranged-le s _ 4 0 4096 3
 
 headed-few : (c : Cursor) (h : HeaderFields) → h .count ≤ 4096 → headed c h .count ≤ 4096
 unfolding headed
 headed-few c h l = elim (ℕ-discrete (c .refused) 0) [ yes e ↦ rw (eq-eqb (c .refused) 0 e) l | no e ↦ rw (ne-eqb (c .refused) 0 e) zero-le ]
 
 header-few : (f : List ℕ) (big : Bool) → headerAt f big .count ≤ 4096
-unfolding headerIn _>>=_
-header-few f big = headed-few _ _ (fields-few f _ big)
+unfolding headerAt _>>=_
+header-few f big = headed-few _ _ (fields-few f _)
 
 -- ---- the buckets are not refused exactly when none of them is
 module _ (big : Bool) (f : List ℕ) (size : ℕ) (x : Index) (cells : Cells) (row : ℕ) where
@@ -67,7 +67,7 @@ module _ (d : Description) (sequence : ℕ) (f : List ℕ) (refused : Refusal) w
   header = headerAt f (d .big)
 
   abbrev index : Index
-  index = indexOf f header
+  index = indexOf f (d .big) header
 
   abbrev cells : Cells
   cells = cellsOf d sequence 0
@@ -87,7 +87,7 @@ module _ (d : Description) (sequence : ℕ) (f : List ℕ) (refused : Refusal) w
           long = leb→le _ _ (or-passed (longEnough (length f) (header .size) (header .count)) 0 _ (then-left _ _ b));
           index = then-left _ _ c;
           free = or-passed _ 9 _ (then-left _ _ e);
-          numbers = index-read (d .rows) f header index (or-passed _ 10 _ (then-left _ _ g));
+          numbers = index-read (d .rows) (d .big) f header index (or-passed _ 10 _ (then-left _ _ g));
           buckets = λ i l. bucket-read f _ _ _ _ _ _ _ _ (clean i l) .accepted;
         },
       )
@@ -102,7 +102,7 @@ module _ (d : Description) (sequence : ℕ) (f : List ℕ) (refused : Refusal) w
       ∙ goes _ _ (passes _ 1 _ (is-true _ (le→leb _ _ (a .long))))
       ∙ goes _ _ (a .index)
       ∙ goes _ _ (passes _ 10 _ (is-true _ (a .free)))
-      ∙ goes _ _ (passes _ 11 _ (is-true _ (index-passes (d .rows) f header index (a .numbers) (header-few f (d .big)) (a .free)))))
+      ∙ goes _ _ (passes _ 11 _ (is-true _ (index-passes (d .rows) (d .big) f header index (a .numbers) (header-few f (d .big)) (a .free)))))
       ∙ all-clean (d .big) f (header .size) index cells 0 (index .count) (λ i l. bucket-on f _ _ _ _ _ _ _ _ (a .buckets i l))
 
 pub accepted-exactly : AcceptedExactly

@@ -6,12 +6,12 @@ use mathlib.Core.Bool.{true, false}
 use Prim.Native.Nat.{ℕ}
 use lib.ListN.{take, set}
 use Rattle.bytes_at.specs.Stages.{noRefusal, blaming}
-use Rattle.bytes_at.specs.Number.{bigFrom, uintOf, bigBytes}
+use Rattle.bytes_at.specs.Number.{bigFrom, littleFrom, uintOf, bigBytes}
 use Rattle.bytes_at.specs.Bytes.{sameBytes}
 use Rattle.bytes_at.specs.Steps.{_>>=_}
 use Rattle.aipsio_rules.specs.Field.{skipped, skippedEach, judged, settled, sizedAt, uintAt, rangedAt, agreed, markAt, textBefore, textAt, nameAt}
 use Rattle.aipsio_rules.specs.Object.{entered, opened, closed, blockAt}
-use Rattle.incremental_rules.specs.Header.{fieldsAt, headed, headerIn, headerAt}
+use Rattle.incremental_rules.specs.Header.{fieldsAt, headed, headerAt}
 use Rattle.incremental_rules.specs.Index.{indexed, indexIn, indexAt}
 
 -- the mark and the header object: big endian, 3 buckets of 64 bytes, bucket 2 free
@@ -33,33 +33,34 @@ object =
     ++ bigBytes 10 0x00020000000100000000
 
 pub header-read : headerAt header true ≡ record { size = 64; count = 3; «free_count» = 1; «first_free» = 2; refused = noRefusal }
-unfolding bigFrom uintOf sameBytes skipped judged settled sizedAt uintAt rangedAt markAt textBefore textAt nameAt entered opened closed fieldsAt headed headerIn _>>=_
+unfolding bigFrom uintOf sameBytes skipped judged settled sizedAt uintAt rangedAt markAt textBefore textAt nameAt entered opened closed fieldsAt headed headerAt _>>=_
 header-read = refl
 
--- a file that ends in the header; the mark; version 4; a Bool of 2; the other endianness; a bucket size of 15; an object that is
--- longer than its fields
+-- a file that ends in the header; the mark; version 4; a Bool of 2; a Bool of the other endianness; this header in a little endian
+-- table; a bucket size of 15; an object that is longer than its fields
 pub header-faults :
     (headerAt (take 56 header) true .refused ≡ blaming 1 4)
     × (headerAt (set header 3 0) true .refused ≡ blaming 2 0)
     × (headerAt (set header 31 4) true .refused ≡ blaming 3 28)
     × (headerAt (set header 32 2) true .refused ≡ blaming 5 32)
-    × (headerAt header false .refused ≡ blaming 6 32)
+    × (headerAt (set header 32 0) true .refused ≡ blaming 6 32)
+    × (headerAt (set header 32 0) false .refused ≡ blaming 1 8)
     × (headerAt (set header 36 15) true .refused ≡ blaming 4 33)
     × (headerAt (set header 7 54 ++ (0 ∷ [])) true .refused ≡ blaming 7 4)
-unfolding bigFrom uintOf sameBytes skipped judged settled sizedAt uintAt rangedAt markAt textBefore textAt nameAt entered opened closed fieldsAt headed headerIn _>>=_
-header-faults = (refl, refl, refl, refl, refl, refl, refl)
+unfolding bigFrom littleFrom uintOf sameBytes skipped judged settled sizedAt uintAt rangedAt markAt textBefore textAt nameAt entered opened closed fieldsAt headed headerAt _>>=_
+header-faults = (refl, refl, refl, refl, refl, refl, refl, refl)
 
-pub index-read : indexAt (object ++ (0 ∷ [])) 0 ≡ record { count = 2; firsts = 49; buckets = 82; refused = noRefusal }
+pub index-read : indexAt (object ++ (0 ∷ [])) true 0 ≡ record { count = 2; firsts = 49; buckets = 82; refused = noRefusal }
 unfolding bigFrom uintOf sameBytes skipped skippedEach judged settled sizedAt uintAt rangedAt agreed markAt textBefore textAt nameAt entered opened closed blockAt indexed indexIn _>>=_
 index-read = refl
 
 -- a file that ends in the last Block; a place past its end; version 2; a count that the Blocks do not have; an object that is
 -- longer than its fields
 pub index-faults :
-    (indexAt (take 89 object) 0 .refused ≡ blaming 1 4)
-    × (indexAt object 91 .refused ≡ blaming 1 91)
-    × (indexAt (set object 23 2) 0 .refused ≡ blaming 3 20)
-    × (indexAt (set object 27 3) 0 .refused ≡ blaming 6 45)
-    × (indexAt (set object 7 87 ++ (0 ∷ [])) 0 .refused ≡ blaming 7 4)
+    (indexAt (take 89 object) true 0 .refused ≡ blaming 1 4)
+    × (indexAt object true 91 .refused ≡ blaming 1 91)
+    × (indexAt (set object 23 2) true 0 .refused ≡ blaming 3 20)
+    × (indexAt (set object 27 3) true 0 .refused ≡ blaming 6 45)
+    × (indexAt (set object 7 87 ++ (0 ∷ [])) true 0 .refused ≡ blaming 7 4)
 unfolding bigFrom uintOf sameBytes skipped skippedEach judged settled sizedAt uintAt rangedAt agreed markAt textBefore textAt nameAt entered opened closed blockAt indexed indexIn _>>=_
 index-faults = (refl, refl, refl, refl, refl)

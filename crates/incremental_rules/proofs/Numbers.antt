@@ -3,7 +3,7 @@
 -- Assumes nothing.
 use mathlib.Core.Path.{_≡_, sym, ap, _∙_}
 use mathlib.Core.List.{List, [], _∷_, _++_}
-use mathlib.Core.Bool.{true}
+use mathlib.Core.Bool.{Bool}
 use Prim.Native.Nat.{ℕ, zero, suc, _+_, _≤_, _<_}
 use native.Mathlib.Numerals.{add-one}
 use native.Mathlib.Omega.{arith}
@@ -39,24 +39,24 @@ module _ (rows : ℕ) where
   rises-yes last [] h e = rw e (eqb-refl rows)
   rises-yes last (x ∷ xs) h e = both (ltb last x) _ (lt→ltb last x (h 0 (omega arith))) (rises-yes x xs (λ i k. h (suc i) (omega arith)) e)
 
-module _ (rows : ℕ) (f : List ℕ) (h : Header) (x : Index) where
+module _ (rows : ℕ) (big : Bool) (f : List ℕ) (h : Header) (x : Index) where
   abbrev numbers : List ℕ
-  numbers = numbersAt true 4 f (x .buckets) (x .count)
+  numbers = numbersAt big 4 f (x .buckets) (x .count)
 
   abbrev firsts : ℕ → List ℕ
-  firsts n = numbersAt true 4 f (x .firsts) n
+  firsts n = numbersAt big 4 f (x .firsts) n
 
-  number-is : (i : ℕ) → i < x .count → getD numbers i 0 ≡ bucketNumber f x i
-  number-is i l = number-at true 4 f (x .buckets) (x .count) i l
+  number-is : (i : ℕ) → i < x .count → getD numbers i 0 ≡ bucketNumber big f x i
+  number-is i l = number-at big 4 f (x .buckets) (x .count) i l
 
   known : {i : ℕ} → i < x .count → i < length numbers
-  known l = rw (numbers-length true 4 f (x .buckets) (x .count)) l
+  known l = rw (numbers-length big 4 f (x .buckets) (x .count)) l
 
-  first-is : (n i : ℕ) → i < n → getD (firsts n) i 0 ≡ firstRow f x i
-  first-is n i l = number-at true 4 f (x .firsts) n i l
+  first-is : (n i : ℕ) → i < n → getD (firsts n) i 0 ≡ firstRow big f x i
+  first-is n i l = number-at big 4 f (x .firsts) n i l
 
   -- ---- the test says what the sentence does
-  module _ (t : T (indexFits rows f h x)) where
+  module _ (t : T (indexFits rows big f h x)) where
     apart : T (allApart (h .count) (numbers ++ freeBuckets f h))
     unfolding indexFits
     apart = and-l (allApart (h .count) (numbers ++ freeBuckets f h)) (firstsFit rows (firsts (x .count + 1))) t
@@ -65,13 +65,13 @@ module _ (rows : ℕ) (f : List ℕ) (h : Header) (x : Index) where
     unfolding indexFits
     rising = rw add-one at (and-r (allApart (h .count) (numbers ++ freeBuckets f h)) (firstsFit rows (firsts (x .count + 1))) t)
 
-    pub index-read : IndexAccepted rows f h x
+    pub index-read : IndexAccepted rows big f h x
     unfolding firstsFit numbersAt
     index-read =
         let n = x .count in
-        let first = uintOf true 4 f (x .firsts) in
-        let rest = numbersAt true 4 f (x .firsts + 4) n in
-        let long : length rest ≡ n = numbers-length true 4 f (x .firsts + 4) n in
+        let first = uintOf big 4 f (x .firsts) in
+        let rest = numbersAt big 4 f (x .firsts + 4) n in
+        let long : length rest ≡ n = numbers-length big 4 f (x .firsts + 4) n in
         let rises : T (risesTo rows first rest) = and-r (eqb first 0) _ rising in
         record {
           in-range = λ i l. rw (number-is i l) at (front-below (h .count) numbers (freeBuckets f h) apart i (known l));
@@ -86,9 +86,9 @@ module _ (rows : ℕ) (f : List ℕ) (h : Header) (x : Index) where
         }
 
   -- ---- and what the sentence says passes the test
-  module _ (a : IndexAccepted rows f h x) where
+  module _ (a : IndexAccepted rows big f h x) where
     long : length numbers ≡ x .count
-    long = numbers-length true 4 f (x .buckets) (x .count)
+    long = numbers-length big 4 f (x .buckets) (x .count)
 
     numbers-apart : T (allApart (h .count) numbers)
     numbers-apart =
@@ -103,9 +103,9 @@ module _ (rows : ℕ) (f : List ℕ) (h : Header) (x : Index) where
     unfolding firstsFit numbersAt
     firsts-good =
         let n = x .count in
-        let first = uintOf true 4 f (x .firsts) in
-        let rest = numbersAt true 4 f (x .firsts + 4) n in
-        let long : length rest ≡ n = numbers-length true 4 f (x .firsts + 4) n in
+        let first = uintOf big 4 f (x .firsts) in
+        let rest = numbersAt big 4 f (x .firsts + 4) n in
+        let long : length rest ≡ n = numbers-length big 4 f (x .firsts + 4) n in
         both (eqb first 0) (risesTo rows first rest)
         (rw (first-is (suc n) 0 (omega arith) ∙ a .from-zero) (eqb-refl 0))
         (rises-yes rows first rest
@@ -122,7 +122,7 @@ module _ (rows : ℕ) (f : List ℕ) (h : Header) (x : Index) where
           (λ i l. free-below f (h .size) (h .count) few (h .«free_count») (h .«first_free») t i (omega arith))
           (λ i j l m. free-once f (h .size) (h .count) few (h .«free_count») (h .«first_free») t i j l (omega arith))
 
-      pub index-passes : T (indexFits rows f h x)
+      pub index-passes : T (indexFits rows big f h x)
       unfolding indexFits
       index-passes =
           both (allApart (h .count) (numbers ++ freeBuckets f h)) (firstsFit rows (firsts (x .count + 1)))

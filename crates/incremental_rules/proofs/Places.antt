@@ -40,9 +40,9 @@ module _ (d : Description) (sequence : ℕ) (f : List ℕ) (refused : Refusal) (
   header = headerAt f (d .big)
 
   abbrev index : Index
-  index = indexOf f header
+  index = indexOf f (d .big) header
 
-  numbers : IndexAccepted (d .rows) f header index
+  numbers : IndexAccepted (d .rows) (d .big) f header index
   numbers = accepted-exactly d sequence f refused .0 z .1 .numbers
 
   none-refused : searchOf (d .big) f (header .size) index (cellsOf d sequence 0) 0 .refused .number ≡ 0
@@ -58,13 +58,13 @@ module _ (d : Description) (sequence : ℕ) (f : List ℕ) (refused : Refusal) (
     found = searchOf (d .big) f (header .size) index cells row
 
     abbrev entry : ℕ
-    entry = entryOf f index row
+    entry = entryOf (d .big) f index row
 
     abbrev start : ℕ
-    start = bucketStart (header .size) (bucketNumber f index entry)
+    start = bucketStart (header .size) (bucketNumber (d .big) f index entry)
 
     abbrev offset : ℕ
-    offset = offsetIn (d .big) f (partAt (d .big) f (start + indexOffset (d .big) f start) (isBound d sequence) position) (row - firstRow f index entry)
+    offset = offsetIn (d .big) f (partAt (d .big) f (start + indexOffset (d .big) f start) (isBound d sequence) position) (row - firstRow (d .big) f index entry)
 
     asked : Asked (d .columns) (d .bindings) sequence position cells
     asked = asked-is (d .columns) (d .bindings) sequence position (d .«column_count») few known bound
@@ -72,17 +72,17 @@ module _ (d : Description) (sequence : ℕ) (f : List ℕ) (refused : Refusal) (
     found-here : FoundIn (d .big) f (header .size) index cells row (index .count) entry found
     found-here =
         search-found (d .big) f (header .size) index cells row
-        (from-first (d .rows) f header index numbers row l)
-        (some-entry (d .rows) f header index numbers row l)
+        (from-first (d .rows) (d .big) f header index numbers row l)
+        (some-entry (d .rows) (d .big) f header index numbers row l)
         (ap (λ (r : Refusal). r .number) (search-same (d .big) f (header .size) index cells (cellsOf d sequence 0) row 0 (cells-same (d .columns) (d .bindings) sequence position 0 (d .«column_count»))) ∙ none-refused)
 
-    in-bucket : InBucket f start (header .size) (d .big) (firstRow f index (entry + 1) - firstRow f index entry) (row - firstRow f index entry) (cells .column) (cells .bytes) (cells .count) (bucketIn (d .big) f (header .size) index cells row entry .value)
-    in-bucket = bucket-read f start (header .size) (d .big) _ (row - firstRow f index entry) (cells .column) (cells .bytes) (cells .count) (found-here .clean)
+    in-bucket : InBucket f start (header .size) (d .big) (firstRow (d .big) f index (entry + 1) - firstRow (d .big) f index entry) (row - firstRow (d .big) f index entry) (cells .column) (cells .bytes) (cells .count) (bucketIn (d .big) f (header .size) index cells row entry .value)
+    in-bucket = bucket-read f start (header .size) (d .big) _ (row - firstRow (d .big) f index entry) (cells .column) (cells .bytes) (cells .count) (found-here .clean)
 
     offset-is : bucketIn (d .big) f (header .size) index cells row entry .value ≡ offset
     offset-is =
         in-bucket .value (asked .known)
-        ∙ ap (λ (p : ℕ). offsetIn (d .big) f p (row - firstRow f index entry)) (asked .part (d .big) f (start + indexOffset (d .big) f start))
+        ∙ ap (λ (p : ℕ). offsetIn (d .big) f p (row - firstRow (d .big) f index entry)) (asked .part (d .big) f (start + indexOffset (d .big) f start))
 
     -- the check finds the cell where its place is
     pub found-there : firstBit found ≡ placeOf d sequence f position row .first
@@ -100,27 +100,27 @@ module _ (d : Description) (sequence : ℕ) (f : List ℕ) (refused : Refusal) (
       bytes-are : cellBytes (getD (d .columns) position noColumn) ≡ ceil8 (getD (d .columns) position noColumn .bits)
       bytes-are = rw (ne-eqb _ _ no-string)
 
-      off-bucket : (b : ℕ) → (bucketNumber f index entry ≡ b → ⊥) → Apart (placeOf d sequence f position row) (bucketBits (header .size) b)
+      off-bucket : (b : ℕ) → (bucketNumber (d .big) f index entry ≡ b → ⊥) → Apart (placeOf d sequence f position row) (bucketBits (header .size) b)
       unfolding placeOf bitOf
       off-bucket b n i p q r s =
-          elim (decLt (bucketNumber f index entry) b) [
+          elim (decLt (bucketNumber (d .big) f index entry) b) [
             | yes g ↦ omega (arith, step (header .size) g, offset-fits, bytes-are, in-bucket .accepted .high, in-bucket .accepted .low)
-            | no g ↦ let g′ : b < bucketNumber f index entry = omega arith in omega (arith, step (header .size) g′)
+            | no g ↦ let g′ : b < bucketNumber (d .big) f index entry = omega arith in omega (arith, step (header .size) g′)
           ]
 
       safe : Safe (d .big) f header index (placeOf d sequence f position row) row
       unfolding placeOf bitOf
       safe = record {
-        given = entry-known (d .rows) f header index numbers row l;
-        not-before = entry-from (d .rows) f header index numbers row l;
-        not-after = entry-to (d .rows) f header index numbers row l;
-        in-range = numbers .in-range entry (entry-known (d .rows) f header index numbers row l);
+        given = entry-known (d .rows) (d .big) f header index numbers row l;
+        not-before = entry-from (d .rows) (d .big) f header index numbers row l;
+        not-after = entry-to (d .rows) (d .big) f header index numbers row l;
+        in-range = numbers .in-range entry (entry-known (d .rows) (d .big) f header index numbers row l);
         inside = (omega arith, omega (arith, offset-fits, bytes-are));
         inside-bucket = (omega arith, omega (arith, in-bucket .accepted .high, in-bucket .accepted .low));
         off-header = λ i p q r s. omega arith;
-        off-free = λ i k. off-bucket _ (numbers .not-free entry i (entry-known (d .rows) f header index numbers row l) k);
+        off-free = λ i k. off-bucket _ (numbers .not-free entry i (entry-known (d .rows) (d .big) f header index numbers row l) k);
         off-index = λ i p q r s.
-            omega (arith, step (header .size) (numbers .in-range entry (entry-known (d .rows) f header index numbers row l)), offset-fits, bytes-are, in-bucket .accepted .high, in-bucket .accepted .low);
+            omega (arith, step (header .size) (numbers .in-range entry (entry-known (d .rows) (d .big) f header index numbers row l)), offset-fits, bytes-are, in-bucket .accepted .high, in-bucket .accepted .low);
       }
 
 pub every-place : EveryPlace

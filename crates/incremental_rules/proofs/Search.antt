@@ -34,20 +34,20 @@ module _ (big : Bool) (f : List ℕ) (size : ℕ) (x : Index) (cells : Cells) (r
   -- what bucket i of the index gives
   abbrev pub bucketIn : ℕ → Value
   bucketIn i =
-      bucketAt f (bucketStart size (bucketNumber f x i)) size big (firstRow f x (i + 1) - firstRow f x i) (row - firstRow f x i) (cells .column) (cells .bytes) (cells .count)
+      bucketAt f (bucketStart size (bucketNumber big f x i)) size big (firstRow big f x (i + 1) - firstRow big f x i) (row - firstRow big f x i) (cells .column) (cells .bytes) (cells .count)
 
   abbrev notAbove : ℕ → Bool
-  notAbove i = leb (firstRow f x i) row
+  notAbove i = leb (firstRow big f x i) row
 
   -- of n buckets, that of entry e was found
   pub record FoundIn (n e : ℕ) (found : Found) : Type 0 where
-    pub start : found .start ≡ bucketStart size (bucketNumber f x e)
+    pub start : found .start ≡ bucketStart size (bucketNumber big f x e)
     pub offset : found .offset ≡ bucketIn e .value
     pub clean : bucketIn e .next .refused ≡ 0
 
   turn-is : (found : Found) (i : ℕ) → bucketInto big f size x cells row found i .refused .number ≡ 0
       → bucketInto big f size x cells row found i ≡ record {
-        start = cond (notAbove i) (bucketStart size (bucketNumber f x i)) (found .start);
+        start = cond (notAbove i) (bucketStart size (bucketNumber big f x i)) (found .start);
         offset = cond (notAbove i) (bucketIn i .value) (found .offset);
         refused = found .refused ▷ refusalIn (bucketIn i .next);
       }
@@ -60,7 +60,7 @@ module _ (big : Bool) (f : List ℕ) (size : ℕ) (x : Index) (cells : Cells) (r
   search-more n found z v e = rw (turn-is found n e) (go (notAbove n) refl)
     where
       go : (b : Bool) → notAbove n ≡ b → FoundIn (suc n) (cond (notAbove n) n (lastBelow notAbove n)) (record {
-        start = cond (notAbove n) (bucketStart size (bucketNumber f x n)) (found .start);
+        start = cond (notAbove n) (bucketStart size (bucketNumber big f x n)) (found .start);
         offset = cond (notAbove n) (bucketIn n .value) (found .offset);
         refused = found .refused ▷ refusalIn (bucketIn n .next);
       })
@@ -79,6 +79,6 @@ module _ (big : Bool) (f : List ℕ) (size : ℕ) (x : Index) (cells : Cells) (r
       search-more n found z (turns-found n z (then-left _ _ (rw (turn-refused big f size x cells row found n) at e))) e
 
   pub search-found : notAbove 0 ≡ true → 0 < x .count → searchOf big f size x cells row .refused .number ≡ 0
-      → FoundIn (x .count) (entryOf f x row) (searchOf big f size x cells row)
+      → FoundIn (x .count) (entryOf big f x row) (searchOf big f size x cells row)
   unfolding searchOf
   search-found z h e = turns-found (x .count) z e h

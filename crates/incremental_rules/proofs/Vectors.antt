@@ -7,7 +7,7 @@ use mathlib.Core.List.{List, [], _∷_, _++_}
 use mathlib.Core.Bool.{Bool, true, false}
 use Prim.Native.Nat.{ℕ}
 use lib.ListN.{take, set, replicate}
-use Rattle.bytes_at.specs.Number.{bigFrom, uintOf, numbersAt, bigBytes}
+use Rattle.bytes_at.specs.Number.{bigFrom, littleFrom, uintOf, numbersAt, bigBytes}
 use Rattle.bytes_at.specs.Bytes.{sameBytes}
 use Rattle.bytes_at.specs.Steps.{after, _>>=_}
 use Rattle.bytes_at.specs.Stages.{noRefusal, blaming, _▷_, orAt}
@@ -21,7 +21,7 @@ use Rattle.table_rules.specs.ColumnSet.{noBinding}
 use Rattle.table_rules.specs.declared.Description.{Description}
 use Rattle.standard_rules.specs.Index.{links, freeOk}
 use Rattle.bytes_at.specs.Lists.{all, pairs, allApart, lastBelow}
-use Rattle.incremental_rules.specs.Header.{fieldsAt, headed, headerIn}
+use Rattle.incremental_rules.specs.Header.{fieldsAt, headed, headerAt}
 use Rattle.incremental_rules.specs.Index.{indexed, indexIn, risesTo, firstsFit, indexFits}
 use Rattle.incremental_rules.proofs.IndexVectors.{header, object}
 use Rattle.incremental_rules.specs.Bucket.{startFits, started, startInto, startsAt, offsetInto, offsetsAt, dataAt, columnPartAt, columnPartInto, columnPartsAt, bucketAt, cellInto, cellsIn}
@@ -91,20 +91,20 @@ pub places :
     × (placeOf (table true) 0 file 2 6 ≡ record { first = 4168; count = 8 })
     × (checkedAs (table true) 0 file noRefusal 2 6 ≡ record { refused = noRefusal; size = 64; first = 4168 })
     × (checkedAs (table true) 0 file (blaming 8 0) 2 6 ≡ record { refused = blaming 8 0; size = 0; first = 0 })
-unfolding bigFrom uintOf sameBytes skipped skippedEach judged settled sizedAt uintAt rangedAt agreed markAt textBefore textAt nameAt entered opened closed blockAt fieldsAt headed headerIn indexed indexIn links freeOk numbersAt all pairs allApart dataAt startFits started startInto startsAt offsetInto offsetsAt columnPartAt columnPartInto columnPartsAt bucketAt lastBelow partAt bitOf placeOf risesTo firstsFit indexFits cellInto cellsIn foundAs bucketInto searchOf refusalOf checkedAs noColumn noBinding _▷_ orAt after _>>=_
+unfolding bigFrom uintOf sameBytes skipped skippedEach judged settled sizedAt uintAt rangedAt agreed markAt textBefore textAt nameAt entered opened closed blockAt fieldsAt headed headerAt indexed indexIn links freeOk numbersAt all pairs allApart dataAt startFits started startInto startsAt offsetInto offsetsAt columnPartAt columnPartInto columnPartsAt bucketAt lastBelow partAt bitOf placeOf risesTo firstsFit indexFits cellInto cellsIn foundAs bucketInto searchOf refusalOf checkedAs noColumn noBinding _▷_ orAt after _>>=_
 places = (refl, refl, refl, refl, refl, refl, refl, refl)
 
--- a file that ends in the last bucket; the other endianness; Blocks shorter than the count; a free list that does not end; a free
+-- a file that ends in the last bucket; a little endian table; Blocks shorter than the count; a free list that does not end; a free
 -- bucket in the index; a bucket out of range; first rows that end past the row count
 pub file-faults :
     (refused (take 703 file) ≡ blaming 1 703)
-    × (refusalOf (table false) 0 file noRefusal ≡ blaming 6 32)
+    × (refusalOf (table false) 0 file noRefusal ≡ blaming 1 8)
     × (refused (set file 731 3) ≡ blaming 6 749)
     × (refused (set file 643 0) ≡ blaming 10 0)
     × (refused (set file 789 2) ≡ blaming 11 0)
     × (refused (set file 789 3) ≡ blaming 11 0)
     × (refused (set file 764 8) ≡ blaming 11 0)
-unfolding bigFrom uintOf sameBytes skipped skippedEach judged settled sizedAt uintAt rangedAt agreed markAt textBefore textAt nameAt entered opened closed blockAt fieldsAt headed headerIn indexed indexIn links freeOk numbersAt all pairs allApart dataAt startFits started startInto startsAt offsetInto offsetsAt columnPartAt columnPartInto columnPartsAt bucketAt risesTo firstsFit indexFits cellInto cellsIn foundAs bucketInto searchOf refusalOf noColumn noBinding _▷_ orAt after _>>=_
+unfolding bigFrom littleFrom uintOf sameBytes skipped skippedEach judged settled sizedAt uintAt rangedAt agreed markAt textBefore textAt nameAt entered opened closed blockAt fieldsAt headed headerAt indexed indexIn links freeOk numbersAt all pairs allApart dataAt startFits started startInto startsAt offsetInto offsetsAt columnPartAt columnPartInto columnPartsAt bucketAt risesTo firstsFit indexFits cellInto cellsIn foundAs bucketInto searchOf refusalOf noColumn noBinding _▷_ orAt after _>>=_
 file-faults = (refl, refl, refl, refl, refl, refl, refl)
 
 -- in bucket 0, an index offset whose high byte is 1, of 3, of 65, and of 64, where the bucket ends; no value of SCAN; a first start
@@ -120,5 +120,5 @@ pub bucket-faults :
     × (refused (set file 545 0) ≡ blaming 11 0)
     × (refused (set file 533 2) ≡ noRefusal)
     × (refused (set file 533 3) ≡ blaming 11 0)
-unfolding bigFrom uintOf sameBytes skipped skippedEach judged settled sizedAt uintAt rangedAt agreed markAt textBefore textAt nameAt entered opened closed blockAt fieldsAt headed headerIn indexed indexIn links freeOk numbersAt all pairs allApart dataAt startFits started startInto startsAt offsetInto offsetsAt columnPartAt columnPartInto columnPartsAt bucketAt risesTo firstsFit indexFits cellInto cellsIn foundAs bucketInto searchOf refusalOf noColumn noBinding _▷_ orAt after _>>=_
+unfolding bigFrom uintOf sameBytes skipped skippedEach judged settled sizedAt uintAt rangedAt agreed markAt textBefore textAt nameAt entered opened closed blockAt fieldsAt headed headerAt indexed indexIn links freeOk numbersAt all pairs allApart dataAt startFits started startInto startsAt offsetInto offsetsAt columnPartAt columnPartInto columnPartsAt bucketAt risesTo firstsFit indexFits cellInto cellsIn foundAs bucketInto searchOf refusalOf noColumn noBinding _▷_ orAt after _>>=_
 bucket-faults = (refl, refl, refl, refl, refl, refl, refl, refl, refl, refl)

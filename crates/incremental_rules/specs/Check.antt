@@ -33,9 +33,9 @@ foundAs refused start offset =
 -- bucket i of the index. The row's bucket is the last whose first row is not above it.
 unfoldable pub bucketInto : Bool → List ℕ → ℕ → Index → Cells → ℕ → Found → ℕ → Found
 bucketInto big f size x cells row found i = do
-  b ← numberIn true 4 f (x .buckets) i
-  first ← numberIn true 4 f (x .firsts) i
-  past ← numberIn true 4 f (x .firsts) (i + 1)
+  b ← numberIn big 4 f (x .buckets) i
+  first ← numberIn big 4 f (x .firsts) i
+  past ← numberIn big 4 f (x .firsts) (i + 1)
   at ← bucketStart size b
   rows ← past - first
   local ← row - first
@@ -57,13 +57,13 @@ searchOf big f size x cells row = after (bucketInto big f size x cells row) noth
 unfoldable pub refusalOf : Description → ℕ → List ℕ → Refusal → Refusal
 refusalOf d sequence f refused =
     let h = headerAt f (d .big) in
-    let x = indexOf f h in
+    let x = indexOf f (d .big) h in
     refused
     ▷ h .refused
     ▷ orAt (longEnough (length f) (h .size) (h .count)) 1 (length f)
     ▷ x .refused
     ▷ orNo (freeOk f (h .size) (h .count) (h .«free_count») (h .«first_free»)) 10
-    ▷ orNo (indexFits (d .rows) f h x) 11
+    ▷ orNo (indexFits (d .rows) (d .big) f h x) 11
     ▷ searchOf (d .big) f (h .size) x (cellsOf d sequence 0) 0 .refused
 
 -- The chapter as facts, in the order of that sentence, of a file with header h and index x.
@@ -77,14 +77,14 @@ pub record FileAccepted (d : Description) (sequence : ℕ) (f : List ℕ) (h : H
   -- "free chain"
   pub free : T (freeOk f (h .size) (h .count) (h .«free_count») (h .«first_free»))
   -- "bucket numbers and first rows"
-  pub numbers : IndexAccepted (d .rows) f h x
+  pub numbers : IndexAccepted (d .rows) (d .big) f h x
   -- "buckets in index order": each has the rows from its first row to the next one
   pub buckets : (i : ℕ) → i < x .count
-      → BucketAccepted f (bucketStart (h .size) (bucketNumber f x i)) (h .size) (d .big) (firstRow f x (i + 1) - firstRow f x i)
+      → BucketAccepted f (bucketStart (h .size) (bucketNumber (d .big) f x i)) (h .size) (d .big) (firstRow (d .big) f x (i + 1) - firstRow (d .big) f x i)
       (cellsOf d sequence 0 .bytes) (cellsOf d sequence 0 .count)
 
 abbrev pub Accepted : Description → ℕ → List ℕ → Type 0
-Accepted d sequence f = let h = headerAt f (d .big) in FileAccepted d sequence f h (indexOf f h)
+Accepted d sequence f = let h = headerAt f (d .big) in FileAccepted d sequence f h (indexOf f (d .big) h)
 
 -- Of every table and every file: nothing refuses exactly when nothing was refused before and the file is accepted.
 abbrev pub AcceptedExactly : Type 0
@@ -102,7 +102,7 @@ firstBit found = 8 * (found .start + 4 + found .offset)
 unfoldable pub checkedAs : Description → ℕ → List ℕ → Refusal → ℕ → ℕ → Checked
 checkedAs d sequence f refused position row =
     let h = headerAt f (d .big) in
-    let found = searchOf (d .big) f (h .size) (indexOf f h) (cellsOf d sequence position) row in
+    let found = searchOf (d .big) f (h .size) (indexOf f (d .big) h) (cellsOf d sequence position) row in
     let why = refusalOf d sequence f refused in
     cond (eqb (why .number) 0)
     (record { refused = noRefusal; size = h .size; first = firstBit found })

@@ -16,11 +16,11 @@ use Rattle.incremental_rules.specs.declared.Header.{Header}
 
 -- "Header version 5", "Bool as above" (else 6), "bucket size 16 to 1,048,576", "buckets 0 to 4,096", cache size, unique column
 -- number, number of free buckets, first free bucket; "its line 'columns added' is no field"
-unfoldable pub fieldsAt : List ℕ → Cursor → Bool → HeaderFields
-fieldsAt s c big = do
+unfoldable pub fieldsAt : List ℕ → Cursor → HeaderFields
+fieldsAt s c = do
   o ← opened s c (bytes "IncrementalStMan") 5 5
   flag ← flagAt s (o .next)
-  same ← sameEndian (flag .value) big
+  same ← sameEndian (flag .value) (c .big)
   d ← judged (flag .next) (o .next .at) same 6
   size ← numberAt s d 4 16 1048576
   count ← numberAt s (size .next) 4 0 4096
@@ -37,15 +37,12 @@ headed c h =
     (record { size = h .size; count = h .count; «free_count» = h .«free_count»; «first_free» = h .«first_free»; refused = noRefusal })
     (record { size = 0; count = 0; «free_count» = 0; «first_free» = 0; refused = refusalIn c })
 
--- the header of a file that is written in the byte order given, in a table of the endianness given
-unfoldable pub headerIn : List ℕ → Bool → Bool → Header
-headerIn s order big = do
+-- the header of a file: "In little endian tables the manager's header and the AipsIO objects of both indices are little endian
+-- too", in big endian ones big endian
+unfoldable pub headerAt : List ℕ → Bool → Header
+headerAt s big = do
   room ← headerRoom (length s)
-  m ← markAt s (record { at = 0; end = room; big = order; refused = 0 })
-  h ← fieldsAt s m big
+  m ← markAt s (record { at = 0; end = room; big = big; refused = 0 })
+  h ← fieldsAt s m
   e ← closed (h .next) m
   headed e h
-
--- "All big endian."
-abbrev pub headerAt : List ℕ → Bool → Header
-headerAt s big = headerIn s true big

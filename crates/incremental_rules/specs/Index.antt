@@ -26,11 +26,11 @@ indexed c count firsts buckets =
     (record { count = 0; firsts = 0; buckets = 0; refused = refusalIn c })
 
 -- "The ISMIndex (version 1, with mark): count n, Block of n + 1 first rows, Block of n bucket numbers (omitted by the note);
--- Block lengths that differ give 6", from a place on, in the byte order given, with first rows of so many bytes.
+-- Block lengths that differ give 6", from a place on, in a table of this endianness, with first rows of so many bytes.
 -- What stands after it is not read.
 unfoldable pub indexIn : List ℕ → Bool → ℕ → ℕ → Index
-indexIn s order each at = do
-  m ← markAt s (record { at = at; end = length s; big = order; refused = 0 })
+indexIn s big each at = do
+  m ← markAt s (record { at = at; end = length s; big = big; refused = 0 })
   o ← opened s m (bytes "ISMIndex") 1 1
   n ← uintAt s (o .next)
   firsts ← blockAt s (n .next) (n .value + 1) each
@@ -38,20 +38,20 @@ indexIn s order each at = do
   e ← closed (buckets .next) m
   indexed e (n .value) (firsts .value) (buckets .value)
 
--- "All big endian"; first rows are uInts
-abbrev pub indexAt : List ℕ → ℕ → Index
-indexAt s at = indexIn s true 4 at
+-- first rows are uInts
+abbrev pub indexAt : List ℕ → Bool → ℕ → Index
+indexAt s big at = indexIn s big 4 at
 
 -- "The ISMIndex stands after the last bucket"
-abbrev pub indexOf : List ℕ → Header → Index
-indexOf f h = indexAt f (bucketStart (h .size) (h .count))
+abbrev pub indexOf : List ℕ → Bool → Header → Index
+indexOf f big h = indexAt f big (bucketStart (h .size) (h .count))
 
--- the first row of entry i of the index, and its bucket number
-abbrev pub firstRow : List ℕ → Index → ℕ → ℕ
-firstRow f x i = numberIn true 4 f (x .firsts) i
+-- the first row of entry i of the index, and its bucket number, in the table's endianness
+abbrev pub firstRow : Bool → List ℕ → Index → ℕ → ℕ
+firstRow big f x i = numberIn big 4 f (x .firsts) i
 
-abbrev pub bucketNumber : List ℕ → Index → ℕ → ℕ
-bucketNumber f x i = numberIn true 4 f (x .buckets) i
+abbrev pub bucketNumber : Bool → List ℕ → Index → ℕ → ℕ
+bucketNumber big f x i = numberIn big 4 f (x .buckets) i
 
 -- the free list
 abbrev pub freeBuckets : List ℕ → Header → List ℕ
@@ -69,22 +69,22 @@ firstsFit rows (x ∷ xs) = let rest = risesTo rows x xs in eqb x 0 && rest
 
 -- "bucket numbers are in range, all different, none free", and the rule above. The free buckets are in range and all different
 -- already, since their chain ends.
-unfoldable pub indexFits : ℕ → List ℕ → Header → Index → Bool
-indexFits rows f h x =
-    allApart (h .count) (numbersAt true 4 f (x .buckets) (x .count) ++ freeBuckets f h)
-    && firstsFit rows (numbersAt true 4 f (x .firsts) (x .count + 1))
+unfoldable pub indexFits : ℕ → Bool → List ℕ → Header → Index → Bool
+indexFits rows big f h x =
+    allApart (h .count) (numbersAt big 4 f (x .buckets) (x .count) ++ freeBuckets f h)
+    && firstsFit rows (numbersAt big 4 f (x .firsts) (x .count + 1))
 
 -- The sentence on the index's numbers as facts, one for each of its clauses.
-pub record IndexAccepted (rows : ℕ) (f : List ℕ) (h : Header) (x : Index) : Type 0 where
+pub record IndexAccepted (rows : ℕ) (big : Bool) (f : List ℕ) (h : Header) (x : Index) : Type 0 where
   -- "bucket numbers are in range"
-  pub in-range : (i : ℕ) → i < x .count → bucketNumber f x i < h .count
+  pub in-range : (i : ℕ) → i < x .count → bucketNumber big f x i < h .count
   -- "all different"
-  pub different : (i j : ℕ) → i < j → j < x .count → bucketNumber f x i ≡ bucketNumber f x j → ⊥
+  pub different : (i j : ℕ) → i < j → j < x .count → bucketNumber big f x i ≡ bucketNumber big f x j → ⊥
   -- "none free"
-  pub not-free : (i j : ℕ) → i < x .count → j < length (freeBuckets f h) → bucketNumber f x i ≡ getD (freeBuckets f h) j 0 → ⊥
+  pub not-free : (i j : ℕ) → i < x .count → j < length (freeBuckets f h) → bucketNumber big f x i ≡ getD (freeBuckets f h) j 0 → ⊥
   -- "first rows start at 0"
-  pub from-zero : firstRow f x 0 ≡ 0
+  pub from-zero : firstRow big f x 0 ≡ 0
   -- "rise strictly"
-  pub rise : (i : ℕ) → i < x .count → firstRow f x i < firstRow f x (i + 1)
+  pub rise : (i : ℕ) → i < x .count → firstRow big f x i < firstRow big f x (i + 1)
   -- "and end at the row count"
-  pub to-rows : firstRow f x (x .count) ≡ rows
+  pub to-rows : firstRow big f x (x .count) ≡ rows

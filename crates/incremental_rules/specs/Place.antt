@@ -31,8 +31,8 @@ abbrev pub offsetIn : Bool → List ℕ → ℕ → ℕ → ℕ
 offsetIn big f part row = offsetOfValue big f part (valueIn big f part row)
 
 -- the entry of a row: the last whose first row is not above it
-abbrev pub entryOf : List ℕ → Index → ℕ → ℕ
-entryOf f x row = lastBelow (λ (i : ℕ). leb (firstRow f x i) row) (x .count)
+abbrev pub entryOf : Bool → List ℕ → Index → ℕ → ℕ
+entryOf big f x row = lastBelow (λ (i : ℕ). leb (firstRow big f x i) row) (x .count)
 
 -- whether the column at a position is bound to the manager with the sequence number
 abbrev pub isBound : Description → ℕ → ℕ → Bool
@@ -47,10 +47,10 @@ partAt big f at bound (suc k) = let before = partAt big f at bound k in cond (bo
 -- the first bit of the value that a row has in the column at a position, in a file with this header and this index
 unfoldable pub bitOf : Description → ℕ → List ℕ → Header → Index → ℕ → ℕ → ℕ
 bitOf d sequence f h x position row =
-    let e = entryOf f x row in
-    let start = bucketStart (h .size) (bucketNumber f x e) in
+    let e = entryOf (d .big) f x row in
+    let start = bucketStart (h .size) (bucketNumber (d .big) f x e) in
     let part = partAt (d .big) f (start + indexOffset (d .big) f start) (isBound d sequence) position in
-    8 * (start + 4 + offsetIn (d .big) f part (row - firstRow f x e))
+    8 * (start + 4 + offsetIn (d .big) f part (row - firstRow (d .big) f x e))
 
 -- "Cells take ceiling(bits / 8) x 8 bits"
 abbrev pub wholeBits : Description → ℕ → ℕ
@@ -60,7 +60,7 @@ wholeBits d position = 8 * ceil8 (getD (d .columns) position noColumn .bits)
 unfoldable pub placeOf : Description → ℕ → List ℕ → ℕ → ℕ → Bits
 placeOf d sequence f position row =
     let h = headerAt f (d .big) in
-    record { first = bitOf d sequence f h (indexOf f h) position row; count = wholeBits d position }
+    record { first = bitOf d sequence f h (indexOf f (d .big) h) position row; count = wholeBits d position }
 
 -- the bits of the data part of bucket b: from byte 4 to its index offset
 abbrev pub dataBits : Bool → List ℕ → Header → ℕ → Bits
@@ -75,13 +75,13 @@ indexBits f h =
 -- What holds of the place p of a cell in a row, in a file with header h and index x.
 pub record Safe (big : Bool) (f : List ℕ) (h : Header) (x : Index) (p : Bits) (row : ℕ) : Type 0 where
   -- the index has an entry for the row, and its bucket is one of the file's
-  pub given : entryOf f x row < x .count
-  pub not-before : firstRow f x (entryOf f x row) ≤ row
-  pub not-after : row < firstRow f x (entryOf f x row + 1)
-  pub in-range : bucketNumber f x (entryOf f x row) < h .count
+  pub given : entryOf big f x row < x .count
+  pub not-before : firstRow big f x (entryOf big f x row) ≤ row
+  pub not-after : row < firstRow big f x (entryOf big f x row + 1)
+  pub in-range : bucketNumber big f x (entryOf big f x row) < h .count
   -- the cell lies in the data part of that bucket, and the data part in the bucket
-  pub inside : Inside p (dataBits big f h (bucketNumber f x (entryOf f x row)))
-  pub inside-bucket : Inside (dataBits big f h (bucketNumber f x (entryOf f x row))) (bucketBits (h .size) (bucketNumber f x (entryOf f x row)))
+  pub inside : Inside p (dataBits big f h (bucketNumber big f x (entryOf big f x row)))
+  pub inside-bucket : Inside (dataBits big f h (bucketNumber big f x (entryOf big f x row))) (bucketBits (h .size) (bucketNumber big f x (entryOf big f x row)))
   pub off-header : Apart p headerBits
   pub off-free : (i : ℕ) → i < length (freeBuckets f h) → Apart p (bucketBits (h .size) (getD (freeBuckets f h) i 0))
   pub off-index : Apart p (indexBits f h)
@@ -97,4 +97,4 @@ abbrev pub EveryPlace : Type 0
 EveryPlace =
     (d : Description) (sequence : ℕ) (f : List ℕ) (refused : Refusal) → d .«column_count» ≤ 64 → refusalOf d sequence f refused .number ≡ 0
     → (position row : ℕ) → Kept d sequence position → row < d .rows
-    → Safe (d .big) f (headerAt f (d .big)) (indexOf f (headerAt f (d .big))) (placeOf d sequence f position row) row
+    → Safe (d .big) f (headerAt f (d .big)) (indexOf f (d .big) (headerAt f (d .big))) (placeOf d sequence f position row) row

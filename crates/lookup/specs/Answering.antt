@@ -32,7 +32,7 @@ pub record Findable (text : List ℕ) (s : Staged) (row : ℕ) : Type 0 where
 unfoldable pub cellFound : List ℕ → Staged → Request → Located
 cellFound text s r =
     let there : Located = record { first = s .first; looks = 0; entries = 0 } in
-    let here = locatedBy text (s .set) (s .plan .size) (s .plan .offset) (s .plan .bits) (r .row) in
+    let here = locatedBy (s .big) text (s .set) (s .plan .size) (s .plan .offset) (s .plan .bits) (r .row) in
     let cell = cond (s .incremental) there here in
     cond (eqb (s .refused .number) 0 && r .cell) cell noCell
 

@@ -49,7 +49,7 @@ pub fn find_cell(room: &[u8], s: Staged, r: Request) -> Located
         }
         let p = s.plan;
         let set = s.set;
-        return standard::place::locate(room, set, p.size, p.offset, p.bits, r.row);
+        return standard::place::locate(room, s.big, set, p.size, p.offset, p.bits, r.row);
     }
     standard::place::no_cell()
 }

@@ -114,6 +114,10 @@ module _ (t f : List ℕ) (r : Request) (l : ℕ) where
   unfolding stagesOf stagesAfter _>>=_
   stages-kind = refl
 
+  pub stages-big : stagesOf t f r l .big ≡ describedAs t .big
+  unfolding stagesOf stagesAfter _>>=_
+  stages-big = refl
+
   pub stages-plan : stagesOf t f r l .plan ≡ planFor targetFor (checkedFor t f r l)
   unfolding stagesOf stagesAfter _>>=_
   stages-plan = refl

@@ -50,7 +50,7 @@ inIncremental t sequence = kindWith (describedAs t .managers) (describedAs t .«
 abbrev pub SafeThere : List ℕ → List ℕ → Bits → ℕ → Type 0
 SafeThere t f place row =
     let h = headerAt f (describedAs t .big) in
-    Safe (describedAs t .big) f h (indexOf f h) place row
+    Safe (describedAs t .big) f h (indexOf f (describedAs t .big) h) place row
 
 abbrev pub PlacesThere : Type 0
 PlacesThere =

@@ -188,8 +188,8 @@ abbrev pub isSeen : Request → Bool → ℕ → Bool
 isSeen r incremental datatype = r .view ⇒ incremental || not (isBool datatype)
 
 -- these stages, after the file check's
-unfoldable pub stagesAfter : Request → Target → FileChecked → ℕ → Staged
-stagesAfter r g m rows = do
+unfoldable pub stagesAfter : Request → Target → FileChecked → ℕ → Bool → Staged
+stagesAfter r g m rows big = do
   p ← planFor g m
   fresh ← isFresh r p
   r1 ← m .refused ▷ orNo fresh 12
@@ -197,7 +197,7 @@ stagesAfter r g m rows = do
   r2 ← r1 ▷ orNo below 9
   seen ← isSeen r (g .incremental) (p .datatype)
   r3 ← r2 ▷ orNo seen 14
-  record { refused = r3; plan = p; sequence = g .sequence; incremental = g .incremental; set = m .set; first = m .first }
+  record { refused = r3; plan = p; sequence = g .sequence; incremental = g .incremental; big = big; set = m .set; first = m .first }
 
 -- "Order: table, manager and column (8), file check, plan (12), row (9), 14."
 unfoldable pub stagesOf : List ℕ → List ℕ → Request → ℕ → Staged
@@ -205,7 +205,7 @@ stagesOf t f r l = do
   d ← describedAs t
   g ← targetOf d r
   m ← fileOf d g f (r .row) l
-  stagesAfter r g m (d .rows)
+  stagesAfter r g m (d .rows) (d .big)
 
 -- ---- what is answered
 -- the place of a cell in the file of the manager with a sequence number, by the manager's kind

@@ -34,7 +34,7 @@ use Rattle.table_rules.proofs.Described.{described}
 use Rattle.lookup_stages.specs.Stages.{targetBy}
 
 -- the stages after the file's check
-module _ (r : Request) (g : Target) (m : FileChecked) (rows : ℕ) {s : Staged} (e : s ≡ stagesAfter r g m rows) where
+module _ (r : Request) (g : Target) (m : FileChecked) (rows : ℕ) (big : Bool) {s : Staged} (e : s ≡ stagesAfter r g m rows big) where
   pub passed : s .refused .number ≡ 0 → m .refused .number ≡ 0
   unfolding stagesAfter _>>=_
   passed z = then-left _ _ (then-left _ _ (then-left _ _ (sym (ap (λ (x : Staged). x .refused .number) e) ∙ z)))
@@ -75,16 +75,16 @@ target-found t r {d} e a x y h =
 
 -- all stages, from those after the file's check
 module _ (t f : List ℕ) (r : Request) (l : ℕ) {d : Description} (e : d ≡ describedAs t) {g : Target} (h : g ≡ targetOf d r) where
-  all-stages : {m : FileChecked} {s : Staged} → m ≡ fileOf d g f (r .row) l → s ≡ stagesAfter r g m (d .rows) → s ≡ stagesOf t f r l
+  all-stages : {m : FileChecked} {s : Staged} → m ≡ fileOf d g f (r .row) l → s ≡ stagesAfter r g m (d .rows) (d .big) → s ≡ stagesOf t f r l
   unfolding stagesOf _>>=_
   all-stages p q = rw (← e, ← h, ← p) q
 
   pub stages-there : {m : IncrementalChecked} {none : Set} {s : Staged} → g .incremental ≡ true
       → m ≡ incrementalAs d (g .sequence) f (g .refused) (g .position) (r .row) → none ≡ noSet
-      → s ≡ stagesAfter r g (record { refused = m .refused; size = m .size; set = none; first = m .first }) (d .rows) → s ≡ stagesOf t f r l
+      → s ≡ stagesAfter r g (record { refused = m .refused; size = m .size; set = none; first = m .first }) (d .rows) (d .big) → s ≡ stagesOf t f r l
   stages-there k p n q = all-stages (rw (file-incremental d g f l k (r .row), p, n)) q
 
   pub stages-here : {m : Checked} {cs : List MapColumn} {s : Staged} → g .incremental ≡ false → columnsOf d (g .sequence) ≡ cs
       → m ≡ checkedWith (d .rows) (d .big) cs f (g .refused) (g .binding .set) l
-      → s ≡ stagesAfter r g (record { refused = m .refused; size = m .size; set = m .set; first = 0 }) (d .rows) → s ≡ stagesOf t f r l
+      → s ≡ stagesAfter r g (record { refused = m .refused; size = m .size; set = m .set; first = 0 }) (d .rows) (d .big) → s ≡ stagesOf t f r l
   stages-here k i p q = all-stages (rw (file-standard d g f l k (r .row), i, p)) q

@@ -16,8 +16,8 @@ use lookup_rules::Staged;
 use lookup_rules::Target;
 
 // The stages after the check of the manager's file.
-fn finish(r: Request, g: Target, m: FileChecked, rows: usize) -> Staged
-    ensures { λ s. ⌜ s ≡ stagesAfter r g m rows ⌝ }
+fn finish(r: Request, g: Target, m: FileChecked, rows: usize, big: bool) -> Staged
+    ensures { λ s. ⌜ s ≡ stagesAfter r g m rows big ⌝ }
     ensures bounded { λ s. ⌜ (s .plan .offset < 4294967296) × (s .plan .bits ≤ 4294967296) ⌝ }
 {
     let p = crate::planning::plan_for(g, m);
@@ -34,6 +34,7 @@ fn finish(r: Request, g: Target, m: FileChecked, rows: usize) -> Staged
         plan: p,
         sequence: g.sequence,
         incremental: g.incremental,
+        big: big,
         set: s,
         first: m.first,
     }
@@ -73,7 +74,7 @@ pub fn stages(table: &[u8], file: &[u8], r: Request, room: &mut [u8]) -> Staged
             set: none,
             first: there.first,
         };
-        return finish(r, g, found, d.rows);
+        return finish(r, g, found, d.rows, d.big);
     }
     let n = d.column_count;
     let sequence = g.sequence;
@@ -113,5 +114,5 @@ pub fn stages(table: &[u8], file: &[u8], r: Request, room: &mut [u8]) -> Staged
         set: set,
         first: 0,
     };
-    finish(r, g, told, d.rows)
+    finish(r, g, told, d.rows, d.big)
 }

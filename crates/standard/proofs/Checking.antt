@@ -52,12 +52,12 @@ module _ (f : List ℕ) (h : Header) (l : ℕ) (area : Area f (h .size) (h .coun
   text-is p q = q ∙ ap (λ (r : List ℕ). take (h .length) r) (p b) ∙ padded-text l _ (h .length) (index-long f _ _ _ _ _ _ area (rw (← a, b) tt))
 
   module _ {x y : List ℕ} (p : i ≡ true → x ≡ padded l (indexText f (h .size) (h .«index_count») (h .«first_index») (h .offset) (h .length))) (q : y ≡ take (h .length) (drop 0 x)) where
-    pub index-is : {ix : Index} → ix ≡ indexAt y (h .sets) → ix ≡ indexAt (indexTextOf f h) (h .sets)
-    index-is v = v ∙ ap (λ (t : List ℕ). indexAt t (h .sets)) (text-is p q)
+    pub index-is : (big : Bool) {ix : Index} → ix ≡ indexAt y big (h .sets) → ix ≡ indexAt (indexTextOf f h) big (h .sets)
+    index-is big v = v ∙ ap (λ (t : List ℕ). indexAt t big (h .sets)) (text-is p q)
 
-    pub map-is : (rows : ℕ) (cs : List MapColumn) (sets : List Set) {m : Bool} → m ≡ fits (mapFrom rows cs f h (setsFrom y sets (h .sets) 0))
-        → m ≡ fits (mapFrom rows cs f h (setsFrom (indexTextOf f h) sets (h .sets) 0))
-    map-is rows cs sets v = v ∙ ap (λ (t : List ℕ). fits (mapFrom rows cs f h (setsFrom t sets (h .sets) 0))) (text-is p q)
+    pub map-is : (big : Bool) (rows : ℕ) (cs : List MapColumn) (sets : List Set) {m : Bool} → m ≡ fits (mapFrom rows cs f h (setsFrom big y sets (h .sets) 0))
+        → m ≡ fits (mapFrom rows cs f h (setsFrom big (indexTextOf f h) sets (h .sets) 0))
+    map-is big rows cs sets v = v ∙ ap (λ (t : List ℕ). fits (mapFrom rows cs f h (setsFrom big t sets (h .sets) 0))) (text-is p q)
 
     pub room-holds : x ≡ padded l (indexTextOf f h)
     room-holds = room-is p
@@ -80,13 +80,13 @@ module _ (rows : ℕ) (big : Bool) (cs : List MapColumn) (f : List ℕ) (refused
 
   -- the map as the code has it: over the header, the text and the sets that were read
   abbrev fitting : Bool
-  fitting = fits (mapFrom rows cs f h (setsFrom (indexTextOf f h) (indexAt (indexTextOf f h) (h .sets) .sets) (h .sets) 0))
+  fitting = fits (mapFrom rows cs f h (setsFrom big (indexTextOf f h) (indexAt (indexTextOf f h) big (h .sets) .sets) (h .sets) 0))
 
   same-map : fits (mapWith rows big cs f) ≡ fitting
   unfolding mapWith
   same-map = rw (← e)
 
-  staged : Refuses (beforeIndex refused h (length f) l ▷ (orNo indexed 10 ▷ (indexAt (indexTextOf f h) (h .sets) .refused ▷ (orNo freed 10 ▷ orNo fitting 11))))
+  staged : Refuses (beforeIndex refused h (length f) l ▷ (orNo indexed 10 ▷ (indexAt (indexTextOf f h) big (h .sets) .refused ▷ (orNo freed 10 ▷ orNo fitting 11))))
   unfolding refusalWith beforeIndex
   staged = rw (same-map, ← e) (sym (rw (regroup, regroup, regroup)))
 
@@ -99,13 +99,13 @@ module _ (rows : ℕ) (big : Bool) (cs : List MapColumn) (f : List ℕ) (refused
   out-first n q z p = out n (staged ∙ rw (← q) (stops n _ z)) z p
 
   module _ {n : Refusal} (q : n ≡ beforeIndex refused h (length f) l) (z : n .number ≡ 0) where
-    after-first : Refuses (orNo indexed 10 ▷ (indexAt (indexTextOf f h) (h .sets) .refused ▷ (orNo freed 10 ▷ orNo fitting 11)))
+    after-first : Refuses (orNo indexed 10 ▷ (indexAt (indexTextOf f h) big (h .sets) .refused ▷ (orNo freed 10 ▷ orNo fitting 11)))
     after-first = staged ∙ goes _ _ (rw q at z)
 
     pub out-index : {i : Bool} {r : Checked} {X : Type 0} → i ≡ indexed → i ≡ false → r ≡ refusedFile (blaming 10 0) → Answers r X
     out-index a b p = out (blaming 10 0) (after-first ∙ rw (no-is indexed 10 0 (sym a ∙ b)) (stops (blaming 10 0) _ (omega arith))) (omega arith) p
 
-    module _ {i : Bool} (a : i ≡ indexed) (b : i ≡ true) {x : Index} (y : x ≡ indexAt (indexTextOf f h) (h .sets)) where
+    module _ {i : Bool} (a : i ≡ indexed) (b : i ≡ true) {x : Index} (y : x ≡ indexAt (indexTextOf f h) big (h .sets)) where
       after-index : Refuses (x .refused ▷ (orNo freed 10 ▷ orNo fitting 11))
       after-index = after-first ∙ goes _ _ (passes indexed 10 0 (sym a ∙ b)) ∙ rw y
 
@@ -117,10 +117,10 @@ module _ (rows : ℕ) (big : Bool) (cs : List MapColumn) (f : List ℕ) (refused
         out-free c v p = out (blaming 10 0) (after-index ∙ goes _ _ w ∙ rw (no-is freed 10 0 (sym c ∙ v)) (stops (blaming 10 0) _ (omega arith))) (omega arith) p
 
         module _ {t : Bool} (c : t ≡ freed) (v : t ≡ true) where
-          after-free : {m : Bool} → m ≡ fits (mapFrom rows cs f h (setsFrom (indexTextOf f h) (x .sets) (h .sets) 0)) → Refuses (orNo m 11)
+          after-free : {m : Bool} → m ≡ fits (mapFrom rows cs f h (setsFrom big (indexTextOf f h) (x .sets) (h .sets) 0)) → Refuses (orNo m 11)
           after-free u = after-index ∙ goes _ _ w ∙ goes _ _ (passes freed 10 0 (sym c ∙ v)) ∙ rw (u, y)
 
-          module _ {m : Bool} (u : m ≡ fits (mapFrom rows cs f h (setsFrom (indexTextOf f h) (x .sets) (h .sets) 0))) {r : Checked} {room : List ℕ}
+          module _ {m : Bool} (u : m ≡ fits (mapFrom rows cs f h (setsFrom big (indexTextOf f h) (x .sets) (h .sets) 0))) {r : Checked} {room : List ℕ}
               (p : r ≡ mapped m (h .size) (getD (x .sets) k noSet)) (o : room ≡ padded l (indexTextOf f h)) where
             by-map : (b : Bool) → m ≡ b → Answers r (room ≡ padded l (indexTextOf f (headerAt f big)))
             unfolding mapped checkedWith

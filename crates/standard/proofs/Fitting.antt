@@ -25,13 +25,13 @@ regroup true false true false e g = refl
 regroup true false false d e g = refl
 regroup false b c d e g = refl
 
-module _ (rows : ℕ) (cs : List MapColumn) (f : List ℕ) (h : Header) (text : List ℕ) {sets : List Set} {entries pers columns lasts buckets : List ℕ} {i : ℕ}
+module _ (rows : ℕ) (cs : List MapColumn) (f : List ℕ) (h : Header) (big : Bool) (text : List ℕ) {sets : List Set} {entries pers columns lasts buckets : List ℕ} {i : ℕ}
     (v : Gathering sets (h .sets) entries pers columns lasts buckets i) (past : h .sets ≤ i) (few : h .sets ≤ 16) where
   abbrev whole : Map
-  whole = mapFrom rows cs f h (setsFrom text sets (h .sets) 0)
+  whole = mapFrom rows cs f h (setsFrom big text sets (h .sets) 0)
 
   abbrev setsPart : Bool
-  setsPart = rowsFit rows text entries pers lasts (h .sets) 0
+  setsPart = rowsFit rows big text entries pers lasts (h .sets) 0
 
   abbrev columnsPart : Bool
   columnsPart = columnsTest cs pers columns (h .sets) (h .size)
@@ -39,16 +39,16 @@ module _ (rows : ℕ) (cs : List MapColumn) (f : List ℕ) (h : Header) (text : 
   abbrev bucketsPart : Bool
   bucketsPart =
       allApart (h .count)
-      (dataBy text entries buckets (h .sets) 0 ++ (links f (h .size) (h .«index_count») (h .«first_index») ++ links f (h .size) (h .«free_count») (h .«first_free»)))
+      (dataBy big text entries buckets (h .sets) 0 ++ (links f (h .size) (h .«index_count») (h .«first_index») ++ links f (h .size) (h .«free_count») (h .«first_free»)))
 
   long : length (whole .sets) ≡ h .sets
-  long = sets-length text sets (h .sets) 0
+  long = sets-length big text sets (h .sets) 0
 
   parts : (setsPart && columnsPart) && bucketsPart ≡ fits whole
   unfolding fits columnsTest
   parts =
-      rw (rows-in v past few text rows, counts-in v past few text cs, data-in v past few text, extents-in v past few text whole refl cs, long)
-      (sym (regroup (all (setFits rows) (setsFrom text sets (h .sets) 0)) (allFrom (countFits cs) 0 (setsFrom text sets (h .sets) 0)) (all (setKnown (h .sets)) cs) (all (inBucket (h .size)) (extents whole)) (pairs clear (extents whole)) (allApart (h .count) (used whole))))
+      rw (rows-in v past few big text rows, counts-in v past few big text cs, data-in v past few big text, extents-in v past few big text whole refl cs, long)
+      (sym (regroup (all (setFits rows) (setsFrom big text sets (h .sets) 0)) (allFrom (countFits cs) 0 (setsFrom big text sets (h .sets) 0)) (all (setKnown (h .sets)) cs) (all (inBucket (h .size)) (extents whole)) (pairs clear (extents whole)) (allApart (h .count) (used whole))))
 
   by : {a b g : Bool} → a ≡ setsPart → b ≡ columnsPart → g ≡ bucketsPart → (a && b) && g ≡ fits whole
   by p q t = rw (p, q, t) parts

@@ -21,28 +21,28 @@ use Rattle.standard.proofs.columns.Listed.{listed, listed-length, liste
 use Rattle.standard.proofs.columns.Facts.{extents-same}
 
 -- ---- the sets of a map
-module _ (text : List ℕ) (sets : List Set) where
+module _ (big : Bool) (text : List ℕ) (sets : List Set) where
   abbrev setIn : ℕ → MapSet
-  setIn k = mapSet text (getD sets k noSet)
+  setIn k = mapSet big text (getD sets k noSet)
 
-  sets-listed : (n i : ℕ) → setsFrom text sets n i ≡ listed setIn n i
+  sets-listed : (n i : ℕ) → setsFrom big text sets n i ≡ listed setIn n i
   unfolding setsFrom listed
   sets-listed zero i = refl
   sets-listed (suc n) i = ap (λ l. setIn i ∷ l) (sets-listed n (suc i))
 
-  pub sets-length : (n i : ℕ) → length (setsFrom text sets n i) ≡ n
+  pub sets-length : (n i : ℕ) → length (setsFrom big text sets n i) ≡ n
   sets-length n i = rw (sets-listed n i) (listed-length setIn n i)
 
-  pub sets-at : (d : MapSet) (n k : ℕ) → k < n → getD (setsFrom text sets n 0) k d ≡ mapSet text (getD sets k noSet)
+  pub sets-at : (d : MapSet) (n k : ℕ) → k < n → getD (setsFrom big text sets n 0) k d ≡ mapSet big text (getD sets k noSet)
   sets-at d n k h = let e : k + 0 ≡ k = omega arith in rw (sets-listed n 0, listed-at setIn d n 0 k h, e)
 
   -- both Blocks have as many elements as there are entries
-  set-fits : (rows k : ℕ) → setFits rows (mapSet text (getD sets k noSet))
-      ≡ covers rows (getD sets k noSet .per) 0 (numbersAt true 4 text (getD sets k noSet .lasts) (getD sets k noSet .entries))
+  set-fits : (rows k : ℕ) → setFits rows (mapSet big text (getD sets k noSet))
+      ≡ covers rows (getD sets k noSet .per) 0 (numbersAt big 4 text (getD sets k noSet .lasts) (getD sets k noSet .entries))
   set-fits rows k =
       let s = getD sets k noSet in
-      let e : eqb (length (numbersAt true 4 text (s .buckets) (s .entries))) (length (numbersAt true 4 text (s .lasts) (s .entries))) ≡ true
-      = eq-eqb _ _ (numbers-length true 4 text (s .buckets) (s .entries) ∙ sym (numbers-length true 4 text (s .lasts) (s .entries))) in
+      let e : eqb (length (numbersAt big 4 text (s .buckets) (s .entries))) (length (numbersAt big 4 text (s .lasts) (s .entries))) ≡ true
+      = eq-eqb _ _ (numbers-length big 4 text (s .buckets) (s .entries) ∙ sym (numbers-length big 4 text (s .lasts) (s .entries))) in
       rw e (and-true _)
     where
       and-true : (b : Bool) → b && true ≡ b
@@ -53,25 +53,25 @@ module _ (text : List ℕ) (sets : List Set) where
 abbrev Held : (Set → ℕ) → List Set → List ℕ → ℕ → Type 0
 Held p sets l m = (k : ℕ) → k < m → getD l k 0 ≡ p (getD sets k noSet)
 
-module _ (text : List ℕ) (sets : List Set) (entries : List ℕ) (m : ℕ) (held : Held (λ s. s .entries) sets entries m) where
+module _ (big : Bool) (text : List ℕ) (sets : List Set) (entries : List ℕ) (m : ℕ) (held : Held (λ s. s .entries) sets entries m) where
   rows-from : (rows : ℕ) (pers lasts : List ℕ) → Held (λ s. s .per) sets pers m → Held (λ s. s .lasts) sets lasts m
-      → (n k : ℕ) → k + n ≤ m → rowsFit rows text entries pers lasts n k ≡ all (setFits rows) (setsFrom text sets n k)
+      → (n k : ℕ) → k + n ≤ m → rowsFit rows big text entries pers lasts n k ≡ all (setFits rows) (setsFrom big text sets n k)
   unfolding rowsFit setsFrom all
   rows-from rows pers lasts p q zero k h = refl
   rows-from rows pers lasts p q (suc n) k h =
-      rw (rows-from rows pers lasts p q n (suc k) (omega arith), set-fits text sets rows k, p k (omega arith), q k (omega arith), held k (omega arith))
+      rw (rows-from rows pers lasts p q n (suc k) (omega arith), set-fits big text sets rows k, p k (omega arith), q k (omega arith), held k (omega arith))
 
   data-from : (buckets : List ℕ) → Held (λ s. s .buckets) sets buckets m
-      → (n k : ℕ) → k + n ≤ m → dataBy text entries buckets n k ≡ dataOf (setsFrom text sets n k)
+      → (n k : ℕ) → k + n ≤ m → dataBy big text entries buckets n k ≡ dataOf (setsFrom big text sets n k)
   unfolding dataBy setsFrom dataOf
   data-from buckets p zero k h = refl
   data-from buckets p (suc n) k h = rw (data-from buckets p n (suc k) (omega arith), p k (omega arith), held k (omega arith))
 
-counts-from : (text : List ℕ) (sets : List Set) (l : List MapColumn) (columns : List ℕ) (m : ℕ) → Held (λ s. s .columns) sets columns m
-    → (n k : ℕ) → k + n ≤ m → countsFit l columns n k ≡ allFrom (countFits l) k (setsFrom text sets n k)
+counts-from : (big : Bool) (text : List ℕ) (sets : List Set) (l : List MapColumn) (columns : List ℕ) (m : ℕ) → Held (λ s. s .columns) sets columns m
+    → (n k : ℕ) → k + n ≤ m → countsFit l columns n k ≡ allFrom (countFits l) k (setsFrom big text sets n k)
 unfolding countsFit setsFrom allFrom
-counts-from text sets l columns m p zero k h = refl
-counts-from text sets l columns m p (suc n) k h = rw (counts-from text sets l columns m p n (suc k) (omega arith), p k (omega arith))
+counts-from big text sets l columns m p zero k h = refl
+counts-from big text sets l columns m p (suc n) k h = rw (counts-from big text sets l columns m p n (suc k) (omega arith), p k (omega arith))
 
 -- ---- the loop: the numbers of the first i of m sets are taken
 abbrev taken : (Set → ℕ) → List Set → ℕ → List ℕ
@@ -158,23 +158,23 @@ module _ {sets : List Set} {m : ℕ} {entries pers columns lasts buckets : List 
         | no l ↦ rw (taken-past (λ s. s .per) sets m pers-taken k (omega arith)) zero-le
       ]
 
-    module _ (text : List ℕ) where
-      per-at : (k : ℕ) → getD pers k 0 ≡ getD (setsFrom text sets m 0) k noMapSet .rowsPer
+    module _ (big : Bool) (text : List ℕ) where
+      per-at : (k : ℕ) → getD pers k 0 ≡ getD (setsFrom big text sets m 0) k noMapSet .rowsPer
       per-at k = elim (decLt k m) [
-        | yes l ↦ pers-held k l ∙ sym (ap (λ (s : MapSet). s .rowsPer) (sets-at text sets noMapSet m k l))
+        | yes l ↦ pers-held k l ∙ sym (ap (λ (s : MapSet). s .rowsPer) (sets-at big text sets noMapSet m k l))
         | no l ↦
             taken-past (λ s. s .per) sets m pers-taken k (omega arith)
-            ∙ sym (ap (λ (s : MapSet). s .rowsPer) (List·getD-eq-default (setsFrom text sets m 0) noMapSet {n = k} (omega (arith, sets-length text sets m 0))))
+            ∙ sym (ap (λ (s : MapSet). s .rowsPer) (List·getD-eq-default (setsFrom big text sets m 0) noMapSet {n = k} (omega (arith, sets-length big text sets m 0))))
       ]
 
-      pub extents-in : (M : Map) → M .sets ≡ setsFrom text sets m 0 → (l : List MapColumn) → extentsBy pers l ≡ map (extentOf M) l
+      pub extents-in : (M : Map) → M .sets ≡ setsFrom big text sets m 0 → (l : List MapColumn) → extentsBy pers l ≡ map (extentOf M) l
       extents-in M e l = extents-same (λ k. getD pers k 0) (λ k. setAt M k .rowsPer) (λ k. per-at k ∙ sym (ap (λ s. getD s k noMapSet .rowsPer) e)) l
 
-      pub rows-in : (rows : ℕ) → rowsFit rows text entries pers lasts m 0 ≡ all (setFits rows) (setsFrom text sets m 0)
-      rows-in rows = rows-from text sets entries m entries-held rows pers lasts pers-held lasts-held m 0 (omega arith)
+      pub rows-in : (rows : ℕ) → rowsFit rows big text entries pers lasts m 0 ≡ all (setFits rows) (setsFrom big text sets m 0)
+      rows-in rows = rows-from big text sets entries m entries-held rows pers lasts pers-held lasts-held m 0 (omega arith)
 
-      pub data-in : dataBy text entries buckets m 0 ≡ dataOf (setsFrom text sets m 0)
-      data-in = data-from text sets entries m entries-held buckets buckets-held m 0 (omega arith)
+      pub data-in : dataBy big text entries buckets m 0 ≡ dataOf (setsFrom big text sets m 0)
+      data-in = data-from big text sets entries m entries-held buckets buckets-held m 0 (omega arith)
 
-      pub counts-in : (l : List MapColumn) → countsFit l columns m 0 ≡ allFrom (countFits l) 0 (setsFrom text sets m 0)
-      counts-in l = counts-from text sets l columns m columns-held m 0 (omega arith)
+      pub counts-in : (l : List MapColumn) → countsFit l columns m 0 ≡ allFrom (countFits l) 0 (setsFrom big text sets m 0)
+      counts-in l = counts-from big text sets l columns m columns-held m 0 (omega arith)

@@ -8,13 +8,13 @@ use Rattle.standard_rules.specs.Map.{covers}
 use Rattle.bytes_at.specs.Number.{numbersAt}
 
 -- "last rows rise strictly, none spans more than rows per bucket, the last is rows - 1", of m sets from set k on
-unfoldable pub rowsFit : ℕ → List ℕ → List ℕ → List ℕ → List ℕ → ℕ → ℕ → Bool
-rowsFit rows text entries pers lasts zero k = true
-rowsFit rows text entries pers lasts (suc m) k =
-    let rest = rowsFit rows text entries pers lasts m (suc k) in
-    covers rows (getD pers k 0) 0 (numbersAt true 4 text (getD lasts k 0) (getD entries k 0)) && rest
+unfoldable pub rowsFit : ℕ → Bool → List ℕ → List ℕ → List ℕ → List ℕ → ℕ → ℕ → Bool
+rowsFit rows big text entries pers lasts zero k = true
+rowsFit rows big text entries pers lasts (suc m) k =
+    let rest = rowsFit rows big text entries pers lasts m (suc k) in
+    covers rows (getD pers k 0) 0 (numbersAt big 4 text (getD lasts k 0) (getD entries k 0)) && rest
 
 -- the data buckets of m sets from set k on
-unfoldable pub dataBy : List ℕ → List ℕ → List ℕ → ℕ → ℕ → List ℕ
-dataBy text entries buckets zero k = []
-dataBy text entries buckets (suc m) k = numbersAt true 4 text (getD buckets k 0) (getD entries k 0) ++ dataBy text entries buckets m (suc k)
+unfoldable pub dataBy : Bool → List ℕ → List ℕ → List ℕ → ℕ → ℕ → List ℕ
+dataBy big text entries buckets zero k = []
+dataBy big text entries buckets (suc m) k = numbersAt big 4 text (getD buckets k 0) (getD entries k 0) ++ dataBy big text entries buckets m (suc k)

@@ -46,6 +46,7 @@ fn check_map(
     f: &[u8],
     h: Header,
     text: &[u8],
+    big: bool,
     sets: [Set; 16],
     k: usize,
     rows: usize,
@@ -58,7 +59,7 @@ fn check_map(
     requires { ⌜ Area (now f) (h .size) (h .count) ⌝ }
     requires { ⌜ (n ≤ 64) × (h .sets ≤ 16) × ((k : ℕ) → k < h .sets → SetInside (length (now text)) 4 (getD sets k noSet)) ⌝ }
     requires { ⌜ ((i : ℕ) → i < n → getD (now offsets) i 0 < 4294967296) × ((i : ℕ) → i < n → getD (now bits) i 0 < 4294967296) ⌝ }
-    ensures { λ r. ⌜ r ≡ mapped (fits (mapFrom rows (columnsBy (now (kept .entry)) (now (owners .entry)) (now (offsets .entry)) (now (bits .entry)) n 0) (now (f .entry)) h (setsFrom (now (text .entry)) sets (h .sets) 0))) (h .size) (getD sets k noSet) ⌝ }
+    ensures { λ r. ⌜ r ≡ mapped (fits (mapFrom rows (columnsBy (now (kept .entry)) (now (owners .entry)) (now (offsets .entry)) (now (bits .entry)) n 0) (now (f .entry)) h (setsFrom big (now (text .entry)) sets (h .sets) 0))) (h .size) (getD sets k noSet) ⌝ }
 {
     let m = h.sets;
     let size = h.size;
@@ -78,7 +79,7 @@ fn check_map(
         buckets[i] = s.buckets;
         i += 1;
     }
-    if !crate::sets::sets_fit(text, &entries, &pers, &lasts, m, rows) {
+    if !crate::sets::sets_fit(text, big, &entries, &pers, &lasts, m, rows) {
         return refuse(Refusal {
             number: 11,
             byte: 0,
@@ -95,6 +96,7 @@ fn check_map(
         size,
         count,
         text,
+        big,
         &entries,
         &buckets,
         m,
@@ -191,7 +193,7 @@ pub fn check(
         });
     }
     let text = bytes_at::part(room, 0, h.length);
-    let index = standard_index::text::read_index(text, h.sets);
+    let index = standard_index::text::read_index(text, big, h.sets);
     let own = index.refused;
     if own.number != 0 {
         return refuse(own);
@@ -203,5 +205,18 @@ pub fn check(
         });
     }
     let sets = index.sets;
-    check_map(f, h, text, sets, k, rows, kept, owners, offsets, bits, n)
+    check_map(
+        f,
+        h,
+        text,
+        big,
+        sets,
+        k,
+        rows,
+        kept,
+        owners,
+        offsets,
+        bits,
+        n,
+    )
 }

@@ -19,12 +19,20 @@ pub fn no_cell() -> Located
     }
 }
 
-// A row's cell in the column at the offset, whose cells have so many bits. The set's lists stand in the text. A set without
-// entries has no cells, and gives zeros.
-pub fn locate(text: &[u8], s: Set, size: usize, offset: usize, bits: usize, row: usize) -> Located
+// A row's cell in the column at the offset, whose cells have so many bits. The set's lists stand in the text, in the table's
+// endianness. A set without entries has no cells, and gives zeros.
+pub fn locate(
+    text: &[u8],
+    big: bool,
+    s: Set,
+    size: usize,
+    offset: usize,
+    bits: usize,
+    row: usize,
+) -> Located
     requires { ⌜ SetInside (length (now text)) 4 s ⌝ }
     requires { ⌜ (size ≤ 1048576) × (offset < 4294967296) × (bits ≤ 4294967296) × (row ≤ 2147483647) ⌝ }
-    ensures { λ r. ⌜ (0 < s .entries → r ≡ locatedBy (now (text .entry)) s size offset bits row) × (s .entries ≡ 0 → r ≡ noCell) ⌝ }
+    ensures { λ r. ⌜ (0 < s .entries → r ≡ locatedBy big (now (text .entry)) s size offset bits row) × (s .entries ≡ 0 → r ≡ noCell) ⌝ }
 {
     let n = s.entries;
     let lasts = s.lasts;
@@ -32,10 +40,10 @@ pub fn locate(text: &[u8], s: Set, size: usize, offset: usize, bits: usize, row:
     if n == 0 {
         return no_cell();
     }
-    let e = standard_index::rows::find_entry(text, lasts, n, row, true, Width::Four);
+    let e = standard_index::rows::find_entry(text, lasts, n, row, big, Width::Four);
     let at = e.at;
-    let b = bytes_at::word(text, buckets + at * 4, true);
-    let r = standard_index::rows::local_row(text, lasts, at, row, true, Width::Four);
+    let b = bytes_at::word(text, buckets + at * 4, big);
+    let r = standard_index::rows::local_row(text, lasts, at, row, big, Width::Four);
     let first = 8 * (512 + b * size + offset) + r * bits;
     let looks = e.looks;
     Located {

@@ -15,6 +15,7 @@ use bytes_at::Width;
 // Whether the last rows of each of m sets rise strictly, span no more than the rows per bucket, and end with the row count.
 pub fn sets_fit(
     text: &[u8],
+    big: bool,
     entries: &[usize; 16],
     pers: &[usize; 16],
     lasts: &[usize; 16],
@@ -22,7 +23,7 @@ pub fn sets_fit(
     rows: usize,
 ) -> bool
     requires { ⌜ (m ≤ 16) × ((k : ℕ) → k < m → getD (now lasts) k 0 + getD (now entries) k 0 * 4 ≤ length (now text)) ⌝ }
-    ensures { λ r. ⌜ r ≡ rowsFit rows (now (text .entry)) (now (entries .entry)) (now (pers .entry)) (now (lasts .entry)) m 0 ⌝ }
+    ensures { λ r. ⌜ r ≡ rowsFit rows big (now (text .entry)) (now (entries .entry)) (now (pers .entry)) (now (lasts .entry)) m 0 ⌝ }
 {
     let mut left = m;
     let mut k = 0;
@@ -33,7 +34,7 @@ pub fn sets_fit(
             entries[k],
             pers[k],
             rows,
-            true,
+            big,
             Width::Four,
         ) {
             return false;
@@ -49,17 +50,18 @@ fn mark_sets(
     seen: &mut [u8; 4096],
     nb: usize,
     text: &[u8],
+    big: bool,
     entries: &[usize; 16],
     buckets: &[usize; 16],
     m: usize,
 ) -> bool
     requires { ⌜ (nb ≤ 4096) × (m ≤ 16) × ((k : ℕ) → k < m → getD (now buckets) k 0 + getD (now entries) k 0 * 4 ≤ length (now text)) ⌝ }
-    ensures { λ r. ⌜ (r ≡ allUnmarked nb (now (seen .entry)) (dataBy (now (text .entry)) (now (entries .entry)) (now (buckets .entry)) m 0)) × (r ≡ true → now (seen .exit) ≡ marked (now (seen .entry)) (dataBy (now (text .entry)) (now (entries .entry)) (now (buckets .entry)) m 0)) ⌝ }
+    ensures { λ r. ⌜ (r ≡ allUnmarked nb (now (seen .entry)) (dataBy big (now (text .entry)) (now (entries .entry)) (now (buckets .entry)) m 0)) × (r ≡ true → now (seen .exit) ≡ marked (now (seen .entry)) (dataBy big (now (text .entry)) (now (entries .entry)) (now (buckets .entry)) m 0)) ⌝ }
 {
     let mut left = m;
     let mut k = 0;
     while 0 < left {
-        if !buckets::marks::add_numbers(seen, nb, text, buckets[k], entries[k]) {
+        if !buckets::marks::add_numbers(seen, nb, text, big, buckets[k], entries[k]) {
             return false;
         }
         k += 1;
@@ -74,6 +76,7 @@ pub fn buckets_apart(
     size: usize,
     nb: usize,
     text: &[u8],
+    big: bool,
     entries: &[usize; 16],
     buckets: &[usize; 16],
     m: usize,
@@ -84,10 +87,10 @@ pub fn buckets_apart(
 ) -> bool
     requires { ⌜ Area (now f) size nb ⌝ }
     requires { ⌜ (m ≤ 16) × ((k : ℕ) → k < m → getD (now buckets) k 0 + getD (now entries) k 0 * 4 ≤ length (now text)) ⌝ }
-    ensures { λ r. ⌜ r ≡ allApart nb (dataBy (now (text .entry)) (now (entries .entry)) (now (buckets .entry)) m 0 ++ (links (now (f .entry)) size ik ib ++ links (now (f .entry)) size fk fb)) ⌝ }
+    ensures { λ r. ⌜ r ≡ allApart nb (dataBy big (now (text .entry)) (now (entries .entry)) (now (buckets .entry)) m 0 ++ (links (now (f .entry)) size ik ib ++ links (now (f .entry)) size fk fb)) ⌝ }
 {
     let mut seen = [0u8; 4096];
-    if !mark_sets(&mut seen, nb, text, entries, buckets, m) {
+    if !mark_sets(&mut seen, nb, text, big, entries, buckets, m) {
         return false;
     }
     if !buckets::marks::add_chain(&mut seen, nb, f, size, ik, ib) {

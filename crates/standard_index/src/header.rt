@@ -11,14 +11,14 @@ use standard_rules::Header;
 use standard_rules::IndexFields;
 
 // From the object's header to the first free bucket.
-fn read_bucket_fields(s: &[u8], c: Cursor, big: bool) -> BucketFields
-    ensures { λ r. ⌜ r ≡ bucketFieldsAt (now (s .entry)) c big ⌝ }
+fn read_bucket_fields(s: &[u8], c: Cursor) -> BucketFields
+    ensures { λ r. ⌜ r ≡ bucketFieldsAt (now (s .entry)) c ⌝ }
     ensures words { λ r. ⌜ (r .«free_count» < 4294967296) × (r .«first_free» < 4294967296) ⌝ }
 {
     // StandardStMan
     let o = aipsio::objects::open(s, c, 13, 0x5374616e64617264, 0x61726453744d616e, 3, 3);
     let flag = aipsio::numbers::flag(s, o.next);
-    let same = buckets::file::same_endian(flag.value, big);
+    let same = buckets::file::same_endian(flag.value, c.big);
     let d = aipsio::judge(flag.next, o.next.at, same, 6);
     let size = aipsio::numbers::number(s, d, Width::Four, 16, 1048576);
     let count = aipsio::numbers::number(s, size.next, Width::Four, 0, 4096);
@@ -102,7 +102,7 @@ fn answer_header(c: Cursor, b: BucketFields, i: IndexFields) -> Header
     }
 }
 
-// The header of a file, in a table of the endianness given.
+// The header of a file, in a table of the endianness given, which is the header's own.
 pub fn read_header(f: &[u8], big: bool) -> Header
     ensures { λ r. ⌜ r ≡ headerAt (now (f .entry)) big ⌝ }
     ensures bounded { λ r. ⌜ HeaderBounds r ⌝ }
@@ -112,11 +112,11 @@ pub fn read_header(f: &[u8], big: bool) -> Header
     let start = Cursor {
         at: 0,
         end: room,
-        big: true,
+        big: big,
         refused: 0,
     };
     let m = aipsio::numbers::mark(f, start);
-    let b = read_bucket_fields(f, m, big);
+    let b = read_bucket_fields(f, m);
     let i = read_index_fields(f, b.next);
     let e = aipsio::objects::close(i.next, m);
     answer_header(e, b, i)

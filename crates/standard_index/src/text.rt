@@ -93,16 +93,16 @@ fn answer_index(c: Cursor, all: Sets) -> Index
     }
 }
 
-// The n sets of an index text. Where it is not refused, the lists of each set lie in it.
-pub fn read_index(text: &[u8], n: usize) -> Index
+// The n sets of an index text, in a table of the endianness given. Where it is not refused, the lists of each set lie in it.
+pub fn read_index(text: &[u8], big: bool, n: usize) -> Index
     requires { ⌜ n ≤ 16 ⌝ }
-    ensures { λ r. ⌜ r ≡ indexAt (now (text .entry)) n ⌝ }
+    ensures { λ r. ⌜ r ≡ indexAt (now (text .entry)) big n ⌝ }
     ensures inside { λ r. ⌜ (r .refused .number ≡ 0 → (k : ℕ) → k < n → SetInside (length (now (text .entry))) 4 (getD (r .sets) k noSet)) ⌝ }
 {
     let start = Cursor {
         at: 0,
         end: text.len(),
-        big: true,
+        big: big,
         refused: 0,
     };
     let all = read_sets(text, start, Width::Four, n);

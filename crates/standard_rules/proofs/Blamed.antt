@@ -16,7 +16,7 @@ use Rattle.standard_rules.specs.declared.IndexFields.{IndexFields}
 use Rattle.standard_rules.specs.declared.Sets.{Sets}
 use Rattle.standard_rules.specs.declared.Header.{Header}
 use Rattle.standard_rules.specs.declared.Index.{Index}
-use Rattle.standard_rules.specs.Header.{headed, headerIn}
+use Rattle.standard_rules.specs.Header.{headed, headerAt}
 use Rattle.standard_rules.specs.Index.{indexed, indexIn}
 use Rattle.standard_rules.specs.Check.{refusalWith, refusalOf}
 
@@ -25,24 +25,24 @@ unfolding headed
 headed-others c b i =
     others-either (λ (x : Header). x .refused) (eqb (c .refused) 0) _ _ others-none (others-blaming (c .refused) (c .at))
 
-header-others : (s : List ℕ) (order big : Bool) → OthersCarry0 (headerIn s order big .refused)
-unfolding headerIn _>>=_
-header-others s order big = headed-others _ _ _
+header-others : (s : List ℕ) (big : Bool) → OthersCarry0 (headerAt s big .refused)
+unfolding headerAt _>>=_
+header-others s big = headed-others _ _ _
 
 indexed-others : (c : Cursor) (all : Sets) → OthersCarry0 (indexed c all .refused)
 unfolding indexed
 indexed-others c all =
     others-either (λ (x : Index). x .refused) (eqb (c .refused) 0) _ _ others-none (others-blaming (c .refused) (c .at))
 
-index-others : (s : List ℕ) (order : Bool) (width : Width) (n : ℕ) → OthersCarry0 (indexIn s order width n .refused)
+index-others : (s : List ℕ) (big : Bool) (width : Width) (n : ℕ) → OthersCarry0 (indexIn s big width n .refused)
 unfolding indexIn _>>=_
-index-others s order width n = indexed-others _ _
+index-others s big width n = indexed-others _ _
 
 pub refusal-others : (d : Description) (sequence : ℕ) (f : List ℕ) (refused : Refusal) (l : ℕ) → OthersCarry0 refused → OthersCarry0 (refusalOf d sequence f refused l)
 unfolding refusalWith
 refusal-others d sequence f refused l h =
     others-then _ _ h
-    (others-then _ _ (header-others _ _ _)
+    (others-then _ _ (header-others _ _)
     (others-then _ _ (others-or _ 1 _)
     (others-then _ _ (others-or _ 13 _)
     (others-then _ _ (others-or _ 10 _)

@@ -17,7 +17,7 @@ use Rattle.aipsio_rules.proofs.Accepted.{judged-passed, ranged-within}
 use Rattle.aipsio_rules.proofs.Bounds.{ranged-le}
 use Rattle.standard_rules.specs.declared.BucketFields.{BucketFields}
 use Rattle.standard_rules.specs.declared.IndexFields.{IndexFields}
-use Rattle.standard_rules.specs.Header.{bucketFieldsAt, offsetFits, indexFieldsAt, headed, headerIn, HeaderBounds}
+use Rattle.standard_rules.specs.Header.{bucketFieldsAt, offsetFits, indexFieldsAt, headed, headerAt, HeaderBounds}
 
 -- the fields on buckets
 pub record BucketBounds (b : BucketFields) : Type 0 where
@@ -25,9 +25,9 @@ pub record BucketBounds (b : BucketFields) : Type 0 where
   pub count-most : b .count ≤ 4096
   pub size-least : Clean (b .next) → 16 ≤ b .size
 
-pub bucket-bounds : (s : List ℕ) (c : Cursor) (big : Bool) → BucketBounds (bucketFieldsAt s c big)
+pub bucket-bounds : (s : List ℕ) (c : Cursor) → BucketBounds (bucketFieldsAt s c)
 unfolding bucketFieldsAt _>>=_
-bucket-bounds s c big = record {
+bucket-bounds s c = record {
   size-most = ranged-le s _ 4 16 1048576 3;
   count-most = ranged-le s _ 4 0 4096 3;
   size-least = λ h.
@@ -123,11 +123,11 @@ module _ (c : Cursor) (b : BucketFields) (i : IndexFields) where
       ]
 
 -- Every header's numbers are in range.
-pub header-bounds : (s : List ℕ) (order : Bool) (big : Bool) → HeaderBounds (headerIn s order big)
-unfolding headerIn _>>=_
-header-bounds s order big =
+pub header-bounds : (s : List ℕ) (big : Bool) → HeaderBounds (headerAt s big)
+unfolding headerAt _>>=_
+header-bounds s big =
     headed-bounds _ _ _
     (λ h. clean-before (index-keeps s _ ⨟ closed-keeps _ _) h)
     (λ h. clean-before (closed-keeps _ _) h)
-    (bucket-bounds s _ big)
+    (bucket-bounds s _)
     (index-bounds s _)

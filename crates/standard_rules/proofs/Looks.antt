@@ -78,11 +78,11 @@ module _ (d : Description) (sequence : ℕ) (f : List ℕ) (l row c : ℕ) (a : 
   unfolding mapWith
   index-known =
       rw (links-long f (headerAt f (d .big) .size) (headerAt f (d .big) .«index_count») (headerAt f (d .big) .«first_index»))
-      (some-index f _ _ _ _ _ _ (header-bounds f true (d .big) .length-least (a .header)) (a .index))
+      (some-index f _ _ _ _ _ _ (header-bounds f (d .big) .length-least (a .header)) (a .index))
 
   count-most : m .count ≤ 4096
   unfolding mapWith
-  count-most = header-bounds f true (d .big) .count-most
+  count-most = header-bounds f (d .big) .count-most
 
   entries-most : length (setAt m s .lasts) ≤ 4095
   entries-most = omega (arith, few-entries m (a .map) s known index-known, count-most)

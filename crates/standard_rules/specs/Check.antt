@@ -31,7 +31,7 @@ refusalWith rows big columns f refused l =
     ▷ orAt (longEnough (length f) (h .size) (h .count)) 1 (length f)
     ▷ orNo (leb (h .length) l) 13
     ▷ orNo (indexOk f (h .size) (h .count) (h .«index_count») (h .«first_index») (h .offset) (h .length)) 10
-    ▷ indexAt text (h .sets) .refused
+    ▷ indexAt text big (h .sets) .refused
     ▷ orNo (freeOk f (h .size) (h .count) (h .«free_count») (h .«first_free»)) 10
     ▷ orNo (fits (mapWith rows big columns f)) 11
 
@@ -41,7 +41,7 @@ checkedWith rows big columns f refused k l =
     let h = headerAt f big in
     let why = refusalWith rows big columns f refused l in
     cond (eqb (why .number) 0)
-    (record { refused = noRefusal; size = h .size; set = getD (indexAt (indexTextOf f h) (h .sets) .sets) k noSet })
+    (record { refused = noRefusal; size = h .size; set = getD (indexAt (indexTextOf f h) big (h .sets) .sets) k noSet })
     (record { refused = why; size = 0; set = noSet })
 
 -- Both of a described table, in the file whose manager has the sequence number.
@@ -62,7 +62,7 @@ pub record FileAccepted (d : Description) (sequence : ℕ) (f : List ℕ) (l : �
   -- "index chain", or the offset in one bucket
   pub index : T (indexOk f (h .size) (h .count) (h .«index_count») (h .«first_index») (h .offset) (h .length))
   -- "text"
-  pub sets : indexAt text (h .sets) .refused .number ≡ 0
+  pub sets : indexAt text (d .big) (h .sets) .refused .number ≡ 0
   -- "free chain"
   pub free : T (freeOk f (h .size) (h .count) (h .«free_count») (h .«first_free»))
   -- "map"

@@ -25,11 +25,11 @@ sameEndian flag big = cond big (eqb flag 1) (eqb flag 0)
 
 -- "Header version 3", "its Bool equals the table's endianness" (else 6), "bucket size 16 to 1,048,576", "buckets 0 to 4,096",
 -- cache size, number of free buckets, first free bucket
-unfoldable pub bucketFieldsAt : List ℕ → Cursor → Bool → BucketFields
-bucketFieldsAt s c big = do
+unfoldable pub bucketFieldsAt : List ℕ → Cursor → BucketFields
+bucketFieldsAt s c = do
   o ← opened s c (bytes "StandardStMan") 3 3
   flag ← flagAt s (o .next)
-  same ← sameEndian (flag .value) big
+  same ← sameEndian (flag .value) (c .big)
   d ← judged (flag .next) (o .next .at) same 6
   size ← numberAt s d 4 16 1048576
   count ← numberAt s (size .next) 4 0 4096
@@ -92,19 +92,16 @@ headed c b i =
       refused = refusalIn c;
     })
 
--- the header of a file that is written in the byte order given, in a table of the endianness given
-unfoldable pub headerIn : List ℕ → Bool → Bool → Header
-headerIn s order big = do
+-- the header of a file: "In little endian tables the manager's header and the AipsIO objects of both indices are little endian
+-- too", in big endian ones big endian
+unfoldable pub headerAt : List ℕ → Bool → Header
+headerAt s big = do
   room ← headerRoom (length s)
-  m ← markAt s (record { at = 0; end = room; big = order; refused = 0 })
-  b ← bucketFieldsAt s m big
+  m ← markAt s (record { at = 0; end = room; big = big; refused = 0 })
+  b ← bucketFieldsAt s m
   i ← indexFieldsAt s (b .next)
   e ← closed (i .next) m
   headed e b i
-
--- "All big endian."
-abbrev pub headerAt : List ℕ → Bool → Header
-headerAt s big = headerIn s true big
 
 -- "Bucket b starts at 512 + b x bucket size."
 abbrev pub bucketStart : ℕ → ℕ → ℕ

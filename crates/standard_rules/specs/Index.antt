@@ -21,7 +21,7 @@ use Rattle.standard_rules.specs.declared.Sets.{Sets}
 use Rattle.standard_rules.specs.declared.Index.{Index}
 use Rattle.bytes_at.specs.declared.Width.the-variants.{Four}
 
--- A link is a big endian Int. This one is -1: no bucket.
+-- "Links in index chains and free chains are big endian in every table." A link is an Int; this one is -1: no bucket.
 abbrev pub noBucket : ℕ
 noBucket = minusOne
 
@@ -133,17 +133,17 @@ indexed c all =
     (record { sets = all .sets; refused = noRefusal })
     (record { sets = replicate 16 noSet; refused = refusalIn c })
 
--- the n sets of an index text in the byte order given, with last rows of the width given.
+-- the n sets of an index text of a table of this endianness, with last rows of the width given.
 -- 7 where the "index text has a length other than its fields use": "text left over fails at its first byte"
 unfoldable pub indexIn : List ℕ → Bool → Width → ℕ → Index
-indexIn s order width n = do
-  all ← setsAt s (record { at = 0; end = length s; big = order; refused = 0 }) width n
+indexIn s big width n = do
+  all ← setsAt s (record { at = 0; end = length s; big = big; refused = 0 }) width n
   e ← judged (all .next) (all .next .at) (eqb (all .next .at) (all .next .end)) 7
   indexed e all
 
--- "All big endian"; last rows are uInts
-abbrev pub indexAt : List ℕ → ℕ → Index
-indexAt s n = indexIn s true Four n
+-- last rows are uInts
+abbrev pub indexAt : List ℕ → Bool → ℕ → Index
+indexAt s big n = indexIn s big Four n
 
 -- "Free chain (free list): exactly the stated number, first 4 bytes big endian, -1 ends it."
 unfoldable pub freeOk : List ℕ → ℕ → ℕ → ℕ → ℕ → Bool

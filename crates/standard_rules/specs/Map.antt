@@ -66,19 +66,19 @@ pub record Kept (m : Map) (c : ℕ) : Type 0 where
 
 -- What the bytes say.
 
--- a set: its last rows and its bucket numbers are the elements of its two Blocks
-abbrev pub mapSet : List ℕ → Set → MapSet
-mapSet text s = record {
+-- a set: its last rows and its bucket numbers are the elements of its two Blocks, in the table's endianness
+abbrev pub mapSet : Bool → List ℕ → Set → MapSet
+mapSet big text s = record {
   rowsPer = s .per;
   columns = s .columns;
-  lasts = numbersAt true 4 text (s .lasts) (s .entries);
-  buckets = numbersAt true 4 text (s .buckets) (s .entries);
+  lasts = numbersAt big 4 text (s .lasts) (s .entries);
+  buckets = numbersAt big 4 text (s .buckets) (s .entries);
 }
 
 -- n sets from set k on
-unfoldable pub setsFrom : List ℕ → List Set → ℕ → ℕ → List MapSet
-setsFrom text sets zero k = []
-setsFrom text sets (suc n) k = mapSet text (getD sets k noSet) ∷ setsFrom text sets n (suc k)
+unfoldable pub setsFrom : Bool → List ℕ → List Set → ℕ → ℕ → List MapSet
+setsFrom big text sets zero k = []
+setsFrom big text sets (suc n) k = mapSet big text (getD sets k noSet) ∷ setsFrom big text sets n (suc k)
 
 -- a column of the table, as a file whose manager has the sequence number keeps it or not
 abbrev pub mapColumn : ℕ → Column → Binding → MapColumn
@@ -111,7 +111,7 @@ unfoldable pub mapWith : ℕ → Bool → List MapColumn → List ℕ → Map
 mapWith rows big columns f =
     let h = headerAt f big in
     let text = indexTextOf f h in
-    mapFrom rows columns f h (setsFrom text (indexAt text (h .sets) .sets) (h .sets) 0)
+    mapFrom rows columns f h (setsFrom big text (indexAt text big (h .sets) .sets) (h .sets) 0)
 
 -- the same of a described table, in the file whose manager has the sequence number
 abbrev pub mapOf : Description → ℕ → List ℕ → Map

@@ -94,21 +94,22 @@ pub fn describe(s: &[u8]) -> Description
     let set = table_column_set::data_managers::read_head(s, e, head.rows);
     let ms = table_column_set::data_managers::read_managers(s, set.next, set.count, set.highest);
     let numbers = ms.numbers;
-    let ours = ms.ours;
+    let managers = ms.managers;
     let arrays = cs.arrays;
     let os = table_column_set::info::read_owners(s, ms.next, arrays, n.count, numbers, set.count);
     let counts = os.counts;
-    let is = table_column_set::bindings::read_infos(s, os.next, ours, counts, set.count);
+    let is = table_column_set::bindings::read_infos(s, os.next, managers, counts, set.count);
     let d = aipsio::objects::close(is.next, m);
     let refused = d.refused;
     if refused != 0 {
         return refuse(aipsio::refusal(d));
     }
     let owners = os.owners;
-    let starts = is.starts;
-    let bindings = table_column_set::bindings::bind(s, owners, counts, ours, starts, n.count);
+    let told = is.told;
+    let sets = is.sets;
+    let offsets = is.offsets;
+    let bindings = table_column_set::bindings::bind(s, owners, told, sets, offsets, n.count);
     let columns = cs.columns;
-    let managers = ms.managers;
     Description {
         refused: Refusal { number: 0, byte: 0 },
         rows: head.rows,

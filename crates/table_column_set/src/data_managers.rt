@@ -1,7 +1,7 @@
 // The beginning of ColumnSet and the data managers of a table (RULES.md 4.6 and 4.7; Note 260, 3.1.2: ColumnSet).
 ghost use mathlib.Core.Path.{_≡_};
 ghost use Prim.Native.Nat.{_≤_};
-ghost use Rattle.table_rules.specs.ColumnSet.{kindOf, isOurs, columnSetHeadAt, firstNumber, isNew, noManager, managersAt};
+ghost use Rattle.table_rules.specs.ColumnSet.{kindOf, columnSetHeadAt, firstNumber, isNew, noManager, managersAt};
 use aipsio_rules::Cursor;
 use bytes_at::Width;
 use table_rules::ColumnSetHead;
@@ -35,16 +35,6 @@ pub fn kind_of(name: &[u8]) -> Kind
         return Kind::Incremental;
     }
     Kind::Other
-}
-
-fn is_ours(kind: Kind) -> bool
-    ensures { λ r. ⌜ r ≡ isOurs kind ⌝ }
-{
-    match kind {
-        Kind::Other => false,
-        Kind::Standard => true,
-        Kind::Incremental => true,
-    }
 }
 
 // Version -2, the row count, which is the table's (else 6), the highest sequence number, and the number of managers.
@@ -99,7 +89,6 @@ pub fn no_manager() -> Manager
         number: 0,
         len: 0,
         kind: Kind::Other,
-        ours: false,
     }
 }
 
@@ -111,7 +100,6 @@ pub fn read_managers(s: &[u8], c: Cursor, n: usize, highest: usize) -> Managers
     let none = no_manager();
     let mut managers = [none; 16];
     let mut numbers = [0usize; 16];
-    let mut ours = [false; 16];
     let mut next = c;
     let mut i = 0;
     while i < n {
@@ -121,23 +109,19 @@ pub fn read_managers(s: &[u8], c: Cursor, n: usize, highest: usize) -> Managers
         let ok = is_new(k, i, number.value, highest);
         let d = aipsio::judge(number.next, name.next.at, ok, 6);
         let kind = kind_of(bytes_at::part(s, name.start, name.len));
-        let one = is_ours(kind);
         managers[i] = Manager {
             start: name.start,
             number: number.value as u32,
             len: name.len as u16,
             kind: kind,
-            ours: one,
         };
         numbers[i] = number.value;
-        ours[i] = one;
         next = d;
         i += 1;
     }
     Managers {
         managers: managers,
         numbers: numbers,
-        ours: ours,
         next: next,
     }
 }

@@ -30,10 +30,10 @@ columns-long : (s : List ℕ) (c : Cursor) (n : ℕ) → length (columnsAt s c n
 unfolding columnsAt
 columns-long s c n = turns-long s c n
 
-bindings-long : (s : List ℕ) (owners : List Owner) (counts : List ℕ) (ours : List Bool) (starts : List ℕ) (n : ℕ) → length (bindingsAt s owners counts ours starts n) ≡ 64
+bindings-long : (s : List ℕ) (owners : List Owner) (told : List Bool) (sets offsets : List ℕ) (n : ℕ) → length (bindingsAt s owners told sets offsets n) ≡ 64
 unfolding bindingsAt after
-bindings-long s owners counts ours starts zero = length-replicate 64 noBinding
-bindings-long s owners counts ours starts (suc n) = length-set (bindingsAt s owners counts ours starts n) n _ ∙ bindings-long s owners counts ours starts n
+bindings-long s owners told sets offsets zero = length-replicate 64 noBinding
+bindings-long s owners told sets offsets (suc n) = length-set (bindingsAt s owners told sets offsets n) n _ ∙ bindings-long s owners told sets offsets n
 
 pub record Described (d : Description) : Type 0 where
   pub rows-most : d .rows ≤ 2147483647
@@ -83,7 +83,7 @@ described t =
       rows-most = rw e (head-most t (u .next));
       columns-most = rw k (count-most t (o .next));
       columns-places = rw x (columns-long t (n .next) (n .count));
-      bindings-places = rw y (bindings-long t (os .owners) (os .counts) (ms .ours) (is .starts) (n .count));
+      bindings-places = rw y (bindings-long t (os .owners) (is .told) (is .sets) (is .offsets) (n .count));
       columns-whole = rw x (columns-whole t (n .next) (n .count));
       others = others-none;
     })

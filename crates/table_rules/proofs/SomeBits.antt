@@ -135,7 +135,7 @@ bits-some s i h k =
     let set = columnSetHeadAt s (closed (cs .next) (head .next)) (head .rows) in
     let ms = managersAt s (set .next) (set .count) (set .highest) in
     let os = ownersAt s (ms .next) (cs .arrays) (n .count) (ms .numbers) (set .count) in
-    let d = closed (infosAt s (os .next) (ms .ours) (os .counts) (set .count) .next) m in
+    let d = closed (infosAt s (os .next) (ms .managers) (os .counts) (set .count) .next) m in
     let later : Keeps (cs .next) d =
     closed-keeps _ _ ⨟ set-head-keeps s _ _ ⨟ managers-keeps s _ _ _ ⨟ owners-keeps s _ _ _ _ _ ⨟ infos-keeps s _ _ _ _ ⨟ closed-keeps _ _ in
     elim (ℕ-discrete (d .refused) 0) [

@@ -6,17 +6,23 @@ use Prim.Native.Nat.{ℕ}
 use lib.Dec.{eqb, leb}
 use Rattle.bytes_at.specs.Steps.{_>>=_}
 use Rattle.aipsio_rules.specs.declared.Cursor.{Cursor}
-use Rattle.aipsio_rules.specs.Field.{minusTwo, settled, flagAt}
+use Rattle.aipsio_rules.specs.declared.Text.{Text}
+use Rattle.aipsio_rules.specs.Field.{minusTwo, settled, flagAt, containerOf}
 use Rattle.aipsio_rules.specs.Object.{ipositionAt, shapeAt}
-use Rattle.aipsio_rules.proofs.Kept.{Keeps, keeps-same, after-keeps, judged-keeps, skipped-keeps, settled-reads, uint-reads, ranged-reads, any-string-reads, string-reads, _⨟_}
-use Rattle.aipsio_rules.proofs.ObjectKept.{iposition-keeps, shape-reads, record-keeps}
+use Rattle.aipsio_rules.proofs.Kept.{Keeps, keeps-same, after-keeps, judged-keeps, skipped-keeps, settled-reads, uint-reads, ranged-reads, any-string-reads, container-keeps, string-reads, _⨟_}
+use Rattle.aipsio_rules.proofs.Ends.{mark-stays}
+use Rattle.aipsio_rules.proofs.ObjectKept.{opened-reads, closed-keeps, block-reads, iposition-keeps, shape-reads, record-keeps}
 use Rattle.table_rules.specs.declared.ColumnHead.{ColumnHead}
 use Rattle.table_rules.specs.declared.Columns.{Columns}
 use Rattle.table_rules.specs.ColumnDesc.{columnTypeAt, columnHeadAt, notesAt, optionsAt, dimensionsAt, elementsAt, layoutAt, defaultAt, tailAt, columnRestAt, columnInto}
+use Rattle.table_rules.specs.declared.Manager.{Manager}
 use Rattle.table_rules.specs.declared.Managers.{Managers}
 use Rattle.table_rules.specs.declared.Owners.{Owners}
+use Rattle.table_rules.specs.declared.Kind.{Kind}
+use Rattle.table_rules.specs.declared.Kind.the-variants.{Other, Standard, Incremental}
+use Rattle.table_rules.specs.declared.InfoRead.{InfoRead}
 use Rattle.table_rules.specs.declared.Infos.{Infos}
-use Rattle.table_rules.specs.ColumnSet.{columnSetHeadAt, managerInto, managersAt, sequenceAt, ownShapeAt, ownerInto, ownersAt, infoInto, infosAt}
+use Rattle.table_rules.specs.ColumnSet.{columnSetHeadAt, managerInto, managersAt, sequenceAt, ownShapeAt, ownerInto, ownersAt, isObject, listsIn, ssmAt, ismAt, afterObject, infoIn, infoAt, infoInto, infosAt}
 
 -- one of two ways
 cond-keeps : (b : Bool) {c d e : Cursor} → Keeps c d → Keeps c e → Keeps c (cond b d e)
@@ -100,6 +106,41 @@ module _ (s : List ℕ) (c : Cursor) where
       cond-keeps array
       (ranged-reads s c 1 0 1 5 .keeps ⨟ cond-keeps (eqb (flagAt s c .value) 0) (keeps-same _) (iposition-keeps s _)) (keeps-same c)
 
+-- DMInfo in its two forms
+module _ (s : List ℕ) (c : Cursor) where
+  ssm-keeps : (n : ℕ) → Keeps c (ssmAt s c n .next)
+  unfolding ssmAt _>>=_
+  ssm-keeps n =
+      mark-stays s c .keeps ⨟ opened-reads s _ _ 2 2 .keeps ⨟ string-reads s _ 0 4096 .keeps ⨟ block-reads s _ n 4 .keeps ⨟ block-reads s _ n 4 .keeps
+      ⨟ closed-keeps _ _
+
+  ism-keeps : Keeps c (ismAt s c .next)
+  unfolding ismAt _>>=_
+  ism-keeps = mark-stays s c .keeps ⨟ opened-reads s _ _ 3 3 .keeps ⨟ string-reads s _ 0 4096 .keeps ⨟ closed-keeps _ _
+
+-- either form: one of two ways
+forms-keep : (b : Bool) {c : Cursor} (x y : InfoRead) → Keeps c (x .next) → Keeps c (y .next) → Keeps c (cond b x y .next)
+forms-keep true x y k l = k
+forms-keep false x y k l = l
+
+module _ (s : List ℕ) (c : Cursor) where
+  lists-keeps : (t : Text) (n : ℕ) → Keeps (t .next) (listsIn c t n .next)
+  unfolding listsIn _>>=_
+  lists-keeps t n = judged-keeps _ _ _ 7
+
+  object-keeps : (o : InfoRead) → Keeps (o .next) (afterObject c o .next)
+  unfolding afterObject _>>=_
+  object-keeps o = closed-keeps (o .next) c
+
+  form-keeps : (t : Text) (kind : Kind) (n : ℕ) → Keeps (t .next) (infoIn s c t kind n .next)
+  form-keeps t Other n = keeps-same (t .next)
+  form-keeps t Standard n = forms-keep (isObject s t) _ _ (container-keeps t ⨟ ssm-keeps s (containerOf t) n ⨟ object-keeps _) (lists-keeps t n)
+  form-keeps t Incremental n = forms-keep (isObject s t) _ _ (container-keeps t ⨟ ism-keeps s (containerOf t) ⨟ object-keeps _) (lists-keeps t n)
+
+  dm-info-keeps : (kind : Kind) (n : ℕ) → Keeps c (infoAt s c kind n .next)
+  unfolding infoAt _>>=_
+  dm-info-keeps kind n = any-string-reads s c .keeps ⨟ form-keeps _ kind n
+
 -- a turn of each loop
 module _ (s : List ℕ) where
   manager-keeps : (highest : ℕ) (ms : Managers) (i : ℕ) → Keeps (ms .next) (managerInto s highest ms i .next)
@@ -111,9 +152,9 @@ module _ (s : List ℕ) where
   unfolding ownerInto _>>=_
   owner-keeps arrays numbers m os i = sequence-keeps s _ ⨟ judged-keeps _ _ _ 6 ⨟ own-shape-keeps s _ _
 
-  info-keeps : (ours : List Bool) (counts : List ℕ) (is : Infos) (j : ℕ) → Keeps (is .next) (infoInto s ours counts is j .next)
+  info-keeps : (managers : List Manager) (counts : List ℕ) (is : Infos) (j : ℕ) → Keeps (is .next) (infoInto s managers counts is j .next)
   unfolding infoInto _>>=_
-  info-keeps ours counts is j = any-string-reads s _ .keeps ⨟ judged-keeps _ _ _ 7
+  info-keeps managers counts is j = dm-info-keeps s _ _ _
 
 module _ (s : List ℕ) (c : Cursor) where
   pub managers-keeps : (n highest : ℕ) → Keeps c (managersAt s c n highest .next)
@@ -124,6 +165,6 @@ module _ (s : List ℕ) (c : Cursor) where
   unfolding ownersAt
   owners-keeps arrays n numbers m = after-keeps _ (λ (os : Owners). os .next) (owner-keeps s arrays numbers m) _ n
 
-  pub infos-keeps : (ours : List Bool) (counts : List ℕ) (m : ℕ) → Keeps c (infosAt s c ours counts m .next)
+  pub infos-keeps : (managers : List Manager) (counts : List ℕ) (m : ℕ) → Keeps c (infosAt s c managers counts m .next)
   unfolding infosAt
-  infos-keeps ours counts m = after-keeps _ (λ (is : Infos). is .next) (info-keeps s ours counts) _ m
+  infos-keeps managers counts m = after-keeps _ (λ (is : Infos). is .next) (info-keeps s managers counts) _ m

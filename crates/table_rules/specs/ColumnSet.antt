@@ -1,12 +1,13 @@
 -- RULES.md 4.6 to 4.9, and Note 260, 3.1.2: ColumnSet, its fields in file order: row count, data managers, ColumnInfo, DMInfo.
-use Prim.Native.Nat.{ℕ, _+_, _*_}
+use Prim.Native.Nat.{ℕ, _+_, _-_, _*_}
 use mathlib.Core.List.{List}
 use lib.Dec.{eqb, leb, ltb}
-use mathlib.Core.Bool.{cond, Bool, true, false}
+use mathlib.Core.Bool.{cond, Bool, true, false, _&&_}
 use lib.ListN.{getD, take, drop, set, replicate}
 use Rattle.bytes_at.specs.Steps.{_>>=_, after}
 use Rattle.aipsio_rules.specs.declared.Cursor.{Cursor}
-use Rattle.aipsio_rules.specs.Field.{minusTwo, judged, uintAt, numberAt, versionAt, stringAt, flagAt, textAt}
+use Rattle.aipsio_rules.specs.declared.Text.{Text}
+use Rattle.aipsio_rules.specs.Field.{minusTwo, judged, uintAt, numberAt, versionAt, stringAt, flagAt, markAt, textAt, containerOf}
 use Rattle.table_rules.specs.declared.ColumnSetHead.{ColumnSetHead}
 use Rattle.bytes_at.specs.Bytes.{bytes, sameBytes}
 use Rattle.table_rules.specs.declared.Kind.{Kind}
@@ -15,12 +16,14 @@ use Rattle.bytes_at.specs.Lists.{firstBelow}
 use Rattle.table_rules.specs.declared.Manager.{Manager}
 use Rattle.table_rules.specs.declared.Managers.{Managers}
 use Rattle.table_rules.specs.declared.Sequence.{Sequence}
-use Rattle.aipsio_rules.specs.Object.{ipositionAt}
+use Rattle.aipsio_rules.specs.Object.{ipositionAt, opened, closed, blockAt}
 use Rattle.table_rules.specs.declared.Owner.{Owner}
 use Rattle.table_rules.specs.declared.Owners.{Owners}
+use Rattle.table_rules.specs.declared.Info.{Info}
+use Rattle.table_rules.specs.declared.InfoRead.{InfoRead}
 use Rattle.table_rules.specs.declared.Infos.{Infos}
 use Rattle.table_rules.specs.declared.Binding.{Binding}
-use Rattle.bytes_at.specs.Number.{uintOf}
+use Rattle.bytes_at.specs.Number.{uintOf, numberIn}
 
 -- "ColumnSet version -2", the row count, which is the table's (else 6), the highest sequence number, "managers 1 to 16"
 unfoldable pub columnSetHeadAt : List ℕ → Cursor → ℕ → ColumnSetHead
@@ -38,12 +41,6 @@ kindOf name =
     cond (sameBytes name (bytes "StandardStMan")) Standard
     (cond (sameBytes name (bytes "IncrementalStMan")) Incremental Other)
 
--- "both managers": the two whose DMInfo and files are read
-abbrev pub isOurs : Kind → Bool
-isOurs Other = false
-isOurs Standard = true
-isOurs Incremental = true
-
 -- the first of n numbers that is the number given, or n
 unfoldable pub firstNumber : List ℕ → ℕ → ℕ → ℕ
 firstNumber numbers n number = firstBelow (λ (i : ℕ). eqb (getD numbers i 0) number) n
@@ -54,7 +51,7 @@ isNew first i number highest = cond (eqb first i) (leb number highest) false
 
 -- no manager: zeros
 unfoldable pub noManager : Manager
-noManager = record { start = 0; number = 0; len = 0; kind = Other; ours = false }
+noManager = record { start = 0; number = 0; len = 0; kind = Other }
 
 -- one manager more, at i: "a sequence number twice, a sequence number above the highest" is 6
 unfoldable pub managerInto : List ℕ → ℕ → Managers → ℕ → Managers
@@ -66,18 +63,16 @@ managerInto s highest ms i = do
   d ← judged (number .next) (name .next .at) ok 6
   found ← take (name .len) (drop (name .start) s)
   kind ← kindOf found
-  ours ← isOurs kind
   record {
-    managers = set (ms .managers) i (record { start = name .start; number = number .value; len = name .len; kind = kind; ours = ours });
+    managers = set (ms .managers) i (record { start = name .start; number = number .value; len = name .len; kind = kind });
     numbers = set (ms .numbers) i (number .value);
-    ours = set (ms .ours) i ours;
     next = d;
   }
 
 -- n managers
 unfoldable pub managersAt : List ℕ → Cursor → ℕ → ℕ → Managers
 managersAt s c n highest =
-    after (managerInto s highest) (record { managers = replicate 16 noManager; numbers = replicate 16 0; ours = replicate 16 false; next = c }) n
+    after (managerInto s highest) (record { managers = replicate 16 noManager; numbers = replicate 16 0; next = c }) n
 
 -- ColumnInfo: version 2, original name, version 1, sequence number
 unfoldable pub sequenceAt : List ℕ → Cursor → Sequence
@@ -121,48 +116,101 @@ unfoldable pub ownersAt : List ℕ → Cursor → List Bool → ℕ → List ℕ
 ownersAt s c arrays n numbers m =
     after (ownerInto s arrays numbers m) (record { owners = replicate 64 noOwner; counts = replicate 16 0; next = c }) n
 
--- "8 bytes for each column bound to it"
-abbrev pub lengthFits : Bool → ℕ → ℕ → Bool
-lengthFits ours len count = cond ours (eqb len (8 * count)) true
+-- no info: zeros
+abbrev pub noInfo : Info
+noInfo = record { told = false; sets = 0; offsets = 0 }
 
--- DMInfo of one manager more, at j: a length and its bytes, one field; a wrong length is 7
-unfoldable pub infoInto : List ℕ → List Bool → List ℕ → Infos → ℕ → Infos
-infoInto s ours counts is j = do
-  t ← textAt s (is .next)
-  ok ← lengthFits (getD ours j false) (t .len) (getD counts j 0)
-  d ← judged (t .next) (is .next .at) ok 7
-  record { starts = set (is .starts) j (t .start); next = d }
+-- DMInfo of both managers has two forms. It is an object "exactly when it has at least 4 bytes and the first 4 are the mark".
+abbrev pub isObject : List ℕ → Text → Bool
+isObject s t = leb 4 (t .len) && eqb (uintOf true 4 s (t .start)) 0xbebebebe
+
+-- The old form, t, whose length stands at the cursor: "set numbers, then offsets, 8 bytes for each column bound to it", of n columns;
+-- another length is 7. The offsets are the last bytes of it.
+unfoldable pub listsIn : Cursor → Text → ℕ → InfoRead
+listsIn c t n = do
+  d ← judged (t .next) (c .at) (eqb (t .len) (8 * n)) 7
+  record { info = record { told = true; sets = t .start; offsets = t .next .at - 4 * n }; next = d }
+
+-- The new form of StandardStMan: "an object SSM, version 2: the manager's name, a Block of offsets, then a Block of set numbers",
+-- n of each, else 6
+unfoldable pub ssmAt : List ℕ → Cursor → ℕ → InfoRead
+ssmAt s c n = do
+  m ← markAt s c
+  o ← opened s m (bytes "SSM") 2 2
+  name ← stringAt s (o .next) 0 4096
+  offsets ← blockAt s (name .next) n 4
+  sets ← blockAt s (offsets .next) n 4
+  d ← closed (sets .next) m
+  record { info = record { told = true; sets = sets .value; offsets = offsets .value }; next = d }
+
+-- The new form of IncrementalStMan: "an object ISM, version 3, with the name only"
+unfoldable pub ismAt : List ℕ → Cursor → InfoRead
+ismAt s c = do
+  m ← markAt s c
+  o ← opened s m (bytes "ISM") 3 3
+  name ← stringAt s (o .next) 0 4096
+  d ← closed (name .next) m
+  record { info = noInfo; next = d }
+
+-- out of DMInfo, whose length stands at the cursor, after the object in it: bytes that are left are 7 at that length
+unfoldable pub afterObject : Cursor → InfoRead → InfoRead
+afterObject c o = do
+  d ← closed (o .next) c
+  record { info = o .info; next = d }
+
+-- either form, t, by the manager's kind; the object's "container is DMInfo". "DMInfo of other kinds is not looked at."
+abbrev pub infoIn : List ℕ → Cursor → Text → Kind → ℕ → InfoRead
+infoIn s c t Other n = record { info = noInfo; next = t .next }
+infoIn s c t Standard n = cond (isObject s t) (afterObject c (ssmAt s (containerOf t) n)) (listsIn c t n)
+infoIn s c t Incremental n = cond (isObject s t) (afterObject c (ismAt s (containerOf t))) (listsIn c t n)
+
+-- DMInfo of a manager of a kind, to which n columns are bound: a length and its bytes, one field
+unfoldable pub infoAt : List ℕ → Cursor → Kind → ℕ → InfoRead
+infoAt s c kind n = do
+  t ← textAt s c
+  infoIn s c t kind n
+
+-- DMInfo of one manager more, at j
+unfoldable pub infoInto : List ℕ → List Manager → List ℕ → Infos → ℕ → Infos
+infoInto s managers counts is j = do
+  one ← infoAt s (is .next) (getD managers j noManager .kind) (getD counts j 0)
+  record {
+    told = set (is .told) j (one .info .told);
+    sets = set (is .sets) j (one .info .sets);
+    offsets = set (is .offsets) j (one .info .offsets);
+    next = one .next;
+  }
 
 -- DMInfo of m managers
-unfoldable pub infosAt : List ℕ → Cursor → List Bool → List ℕ → ℕ → Infos
-infosAt s c ours counts m = after (infoInto s ours counts) (record { starts = replicate 16 0; next = c }) m
+unfoldable pub infosAt : List ℕ → Cursor → List Manager → List ℕ → ℕ → Infos
+infosAt s c managers counts m =
+    after (infoInto s managers counts) (record { told = replicate 16 false; sets = replicate 16 0; offsets = replicate 16 0; next = c }) m
 
 -- no binding: zeros
 unfoldable pub noBinding : Binding
 noBinding = record { sequence = 0; set = 0; offset = 0 }
 
--- "DMInfo of both managers: set numbers, then offsets, in column order"; `count` columns are bound to the manager
-unfoldable pub bindingOf : List ℕ → Owner → Bool → ℕ → Binding
-bindingOf info owner ours count =
-    cond ours
+-- what DMInfo tells of a column: the set number and the offset at its rank, "in column order", big endian as all of table.dat
+unfoldable pub bindingOf : List ℕ → Owner → Info → Binding
+bindingOf s owner info =
+    cond (info .told)
     (record {
       sequence = owner .sequence;
-      set = uintOf true 4 info (4 * owner .rank);
-      offset = uintOf true 4 info (4 * (count + owner .rank));
+      set = numberIn true 4 s (info .sets) (owner .rank);
+      offset = numberIn true 4 s (info .offsets) (owner .rank);
     })
     (record { sequence = owner .sequence; set = 0; offset = 0 })
 
 -- the binding of column i
-unfoldable pub bindingAt : List ℕ → List Owner → List ℕ → List Bool → List ℕ → ℕ → Binding
-bindingAt s owners counts ours starts i = do
+unfoldable pub bindingAt : List ℕ → List Owner → List Bool → List ℕ → List ℕ → ℕ → Binding
+bindingAt s owners told sets offsets i = do
   owner ← getD owners i noOwner
-  count ← getD counts (owner .manager) 0
-  start ← getD starts (owner .manager) 0
-  one ← getD ours (owner .manager) false
-  info ← take (8 * count) (drop start s)
-  bindingOf info owner one count
+  one ← getD told (owner .manager) false
+  from ← getD sets (owner .manager) 0
+  to ← getD offsets (owner .manager) 0
+  bindingOf s owner (record { told = one; sets = from; offsets = to })
 
 -- the bindings of n columns
-unfoldable pub bindingsAt : List ℕ → List Owner → List ℕ → List Bool → List ℕ → ℕ → List Binding
-bindingsAt s owners counts ours starts n =
-    after (λ (bs : List Binding) (i : ℕ). set bs i (bindingAt s owners counts ours starts i)) (replicate 64 noBinding) n
+unfoldable pub bindingsAt : List ℕ → List Owner → List Bool → List ℕ → List ℕ → ℕ → List Binding
+bindingsAt s owners told sets offsets n =
+    after (λ (bs : List Binding) (i : ℕ). set bs i (bindingAt s owners told sets offsets i)) (replicate 64 noBinding) n

@@ -72,9 +72,9 @@ describedAs s = do
   set ← columnSetHeadAt s e (head .rows)
   ms ← managersAt s (set .next) (set .count) (set .highest)
   os ← ownersAt s (ms .next) (cs .arrays) (n .count) (ms .numbers) (set .count)
-  is ← infosAt s (os .next) (ms .ours) (os .counts) (set .count)
+  is ← infosAt s (os .next) (ms .managers) (os .counts) (set .count)
   d ← closed (is .next) m
-  bindings ← bindingsAt s (os .owners) (os .counts) (ms .ours) (is .starts) (n .count)
+  bindings ← bindingsAt s (os .owners) (is .told) (is .sets) (is .offsets) (n .count)
   cond (eqb (d .refused) 0)
       (record {
         refused = noRefusal;

@@ -78,22 +78,19 @@ pub enum Kind {
     Incremental,
 }
 
-// A data manager: its name as a part of table.dat, its sequence number and its kind, and whether that is one of the two
-// kinds whose files are read.
+// A data manager: its name as a part of table.dat, its sequence number and its kind.
 pub struct Manager {
     pub start: usize,
     pub number: u32,
     pub len: u16,
     pub kind: Kind,
-    pub ours: bool,
 }
 
-// Managers in stored order, their sequence numbers, which of them are of the two kinds, and the cursor past them.
+// Managers in stored order, their sequence numbers, and the cursor past them.
 pub struct Managers {
     pub managers: [Manager; 16],
     pub next: Cursor,
     pub numbers: [usize; 16],
-    pub ours: [bool; 16],
 }
 
 // A column's sequence number, whose field begins at `from`.
@@ -117,13 +114,28 @@ pub struct Owners {
     pub counts: [usize; 16],
 }
 
-// Where each manager's DMInfo begins, past its length, and the cursor past all of them.
-pub struct Infos {
-    pub starts: [usize; 16],
+// Where a manager's DMInfo has the set numbers and the offsets of its columns, 4 bytes each; whether it tells them at all.
+pub struct Info {
+    pub told: bool,
+    pub sets: usize,
+    pub offsets: usize,
+}
+
+// DMInfo of a manager, and the cursor past it.
+pub struct InfoRead {
+    pub info: Info,
     pub next: Cursor,
 }
 
-// Where a column is kept: its manager's sequence number and, of the two kinds, what DMInfo gives for it.
+// The same of the managers in stored order, in lists of numbers, which can be lent, and the cursor past all of them.
+pub struct Infos {
+    pub told: [bool; 16],
+    pub sets: [usize; 16],
+    pub offsets: [usize; 16],
+    pub next: Cursor,
+}
+
+// Where a column is kept: its manager's sequence number, and the set number and the offset that DMInfo tells.
 pub struct Binding {
     pub sequence: u32,
     pub set: u32,

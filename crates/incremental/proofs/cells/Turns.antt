@@ -1,7 +1,7 @@
 -- The loop over the buckets of the index: what a turn gives.
 -- Assumes nothing.
 use mathlib.Core.Path.{_≡_, refl, sym}
-use mathlib.Core.Bool.{Bool, true, cond}
+use mathlib.Core.Bool.{Bool, cond}
 use mathlib.Core.List.{List}
 use Prim.Native.Nat.{ℕ, _+_, _-_, _*_, _≤_, _<_}
 use native.Mathlib.Nat.{mul-le-mul}
@@ -56,7 +56,7 @@ module _ (big : Bool) (f : List ℕ) (size : ℕ) (x : Index) (cells : Cells) (r
       found-stays _ _ _ _ h))))))))))
 
   module _ (start offset i : ℕ) {b first past at rows local : ℕ} {one : Value}
-      (eb : b ≡ numberIn true 4 f (x .buckets) i) (ef : first ≡ numberIn true 4 f (x .firsts) i) (ep : past ≡ numberIn true 4 f (x .firsts) (i + 1))
+      (eb : b ≡ numberIn big 4 f (x .buckets) i) (ef : first ≡ numberIn big 4 f (x .firsts) i) (ep : past ≡ numberIn big 4 f (x .firsts) (i + 1))
       (ea : at ≡ bucketStart size b) (er : rows ≡ past - first) (el : local ≡ row - first)
       (eo : one ≡ bucketAt f at size big rows local (cells .column) (cells .bytes) (cells .count)) where
     pub bucket-on : {start′ offset′ : ℕ} → one .next .refused ≡ 0 → start′ ≡ cond (leb first row) at start → offset′ ≡ cond (leb first row) (one .value) offset

@@ -47,7 +47,7 @@ find-cell-requires c κs = (
   (c .before .before .before .before .before .before .before .before .before .before .before .before .before .before .before .read-header .ensures .1 .0 .size-most, c .gather-cells .ensures .1),
   (
     c .before .before .before .before .before .before .before .before .before .before .read-index .ensures .1 (c .before .before .before .before .before .before .before .if2 .left),
-    buckets-inside _ _ _ _ (area-passed _ _ _ (c .before .before .before .before .before .before .before .before .before .before .before .before .before .before .before .read-header .ensures .1 .0) (c .before .before .before .before .before .before .before .before .before .before .before .before .before .before .before-index .ensures) (c .before .before .before .before .before .before .before .before .before .before .before .before .if1 .left))
+    buckets-inside _ _ _ _ _ (area-passed _ _ _ (c .before .before .before .before .before .before .before .before .before .before .before .before .before .before .before .read-header .ensures .1 .0) (c .before .before .before .before .before .before .before .before .before .before .before .before .before .before .before-index .ensures) (c .before .before .before .before .before .before .before .before .before .before .before .before .if1 .left))
         (c .before .before .before .before .index-fits .ensures) (not-false _ (c .before .before .before .if4 .left)),
   ),
 )

@@ -18,7 +18,7 @@ use Rattle.aipsio_rules.proofs.Accepted.{ranged-within}
 use Rattle.aipsio_rules.proofs.Bounds.{ranged-le}
 use Rattle.incremental_rules.specs.declared.HeaderFields.{HeaderFields}
 use Rattle.incremental_rules.specs.declared.Header.{Header}
-use Rattle.incremental_rules.specs.Header.{fieldsAt, headed, headerIn}
+use Rattle.incremental_rules.specs.Header.{fieldsAt, headed, headerAt}
 use Rattle.incremental.specs.Bounds.{HeaderBounds, HeaderWords}
 
 -- the fields
@@ -27,9 +27,9 @@ pub record FieldBounds (h : HeaderFields) : Type 0 where
   pub count-most : h .count ≤ 4096
   pub size-least : Clean (h .next) → 16 ≤ h .size
 
-pub field-bounds : (s : List ℕ) (c : Cursor) (big : Bool) → FieldBounds (fieldsAt s c big)
+pub field-bounds : (s : List ℕ) (c : Cursor) → FieldBounds (fieldsAt s c)
 unfolding fieldsAt _>>=_
-field-bounds s c big = record {
+field-bounds s c = record {
   size-most = ranged-le s _ 4 16 1048576 3;
   count-most = ranged-le s _ 4 0 4096 3;
   size-least = λ h.
@@ -64,10 +64,10 @@ module _ (c : Cursor) (h : HeaderFields) where
       ]
 
 -- Every header's numbers are in range.
-pub header-bounds : (s : List ℕ) (order : Bool) (big : Bool) → HeaderBounds (headerIn s order big)
-unfolding headerIn _>>=_
-header-bounds s order big = headed-bounds _ _ (λ e. clean-before (closed-keeps _ _) e) (field-bounds s _ big)
+pub header-bounds : (s : List ℕ) (big : Bool) → HeaderBounds (headerAt s big)
+unfolding headerAt _>>=_
+header-bounds s big = headed-bounds _ _ (λ e. clean-before (closed-keeps _ _) e) (field-bounds s _)
 
-pub header-answered : (s : List ℕ) (order : Bool) (big : Bool) {h : Header} → h ≡ headerIn s order big → HeaderWords h
-    → (h ≡ headerIn s order big) × (HeaderBounds h × HeaderWords h)
-header-answered s order big e w = (e, (rw e (header-bounds s order big), w))
+pub header-answered : (s : List ℕ) (big : Bool) {h : Header} → h ≡ headerAt s big → HeaderWords h
+    → (h ≡ headerAt s big) × (HeaderBounds h × HeaderWords h)
+header-answered s big e w = (e, (rw e (header-bounds s big), w))

@@ -43,11 +43,11 @@ module _ (c : Cursor) (count firsts buckets : ℕ) where
         | no e ↦ absurd (e (rw (← (indexed-off e refl)) at z))
       ]
 
-module _ (s : List ℕ) (order : Bool) (each at : ℕ) where
-  pub index-inside : indexIn s order each at .refused .number ≡ 0 → IndexInside (length s) each (indexIn s order each at)
+module _ (s : List ℕ) (big : Bool) (each at : ℕ) where
+  pub index-inside : indexIn s big each at .refused .number ≡ 0 → IndexInside (length s) each (indexIn s big each at)
   unfolding indexIn _>>=_
   index-inside z =
-      let start : Cursor = record { at = at; end = length s; big = order; refused = 0 } in
+      let start : Cursor = record { at = at; end = length s; big = big; refused = 0 } in
       let m = markAt s start in
       let o = opened s m (bytes "ISMIndex") 1 1 in
       let n = uintAt s (o .next) in
@@ -64,5 +64,5 @@ module _ (s : List ℕ) (order : Bool) (each at : ℕ) where
         buckets-inside = omega (arith, block-inside s (a .next) (n .value) 4 hb, start-to-a .ends ha);
       })
 
-  pub index-answered : {x : Index} → x ≡ indexIn s order each at → (x ≡ indexIn s order each at) × (x .refused .number ≡ 0 → IndexInside (length s) each x)
+  pub index-answered : {x : Index} → x ≡ indexIn s big each at → (x ≡ indexIn s big each at) × (x .refused .number ≡ 0 → IndexInside (length s) each x)
   index-answered {x} q = (q, λ z. rw q (index-inside (rw q at z)))

@@ -49,7 +49,7 @@ use Rattle.lookup_rules.proofs.Files.{file-standard, file-incremental, standard
 use Rattle.lookup_rules.proofs.Places.{place-standard}
 use Rattle.lookup_rules.proofs.IncrementalPlaces.{place-there}
 use Rattle.lookup_rules.proofs.Looks.{looks-standard, looks-there}
-use Rattle.lookup_rules.proofs.Stages.{check-of, row-passed, stages-sequence, stages-kind, target-column, target-sequence, target-position, target-binding, target-described, stages-plan, stages-set, stages-first}
+use Rattle.lookup_rules.proofs.Stages.{check-of, row-passed, stages-sequence, stages-kind, target-column, target-sequence, target-position, target-binding, target-described, stages-plan, stages-set, stages-big, stages-first}
 use Rattle.lookup.specs.Answering.{Findable, cellFound, answerWith}
 use Rattle.lookup.proofs.answer.Placing.{set-told, size-told, set-known, set-same, set-covered, set-inside, size-most}
 
@@ -91,7 +91,7 @@ module _ (t f : List ℕ) (r : Request) (l : ℕ) (z : stagesOf t f r l .refused
 
   -- the column's set, as the index text has it
   abbrev x : Set
-  x = getD (indexAt text (headerAt f (d .big) .sets) .sets) (b .set) noSet
+  x = getD (indexAt text (d .big) (headerAt f (d .big) .sets) .sets) (b .set) noSet
 
   own : b .sequence ≡ sequence
   own = sym (target-sequence d r ∙ cell-sequence r (b .sequence) w)
@@ -114,10 +114,10 @@ module _ (t f : List ℕ) (r : Request) (l : ℕ) (z : stagesOf t f r l .refused
   listed : b .set < headerAt f (d .big) .sets
   listed = rw (ap (λ (k : MapColumn). k .set) column-is) at (set-known d sequence f before l passes c kept)
 
-  map-set : setOf m c ≡ mapSet text x
+  map-set : setOf m c ≡ mapSet (d .big) text x
   map-set = ap (λ (k : MapColumn). setAt m (k .set)) column-is ∙ set-same d sequence f before l (b .set) listed
 
-  covered : T (covers (d .rows) (x .per) 0 (numbersAt true 4 text (x .lasts) (x .entries)))
+  covered : T (covers (d .rows) (x .per) 0 (numbersAt (d .big) 4 text (x .lasts) (x .entries)))
   unfolding mapWith
   covered = rw (set-same d sequence f before l (b .set) listed) at (set-covered d sequence f before l passes (b .set) listed)
 
@@ -130,7 +130,7 @@ module _ (t f : List ℕ) (r : Request) (l : ℕ) (z : stagesOf t f r l .refused
       stages-set t f r l
       ∙ ap (λ (m : FileChecked). m .set) file-is
       ∙ set-told d sequence f before l passes (targetOf d r .binding .set)
-      ∙ ap (λ (y : Binding). getD (indexAt text (headerAt f (d .big) .sets) .sets) (y .set) noSet) (target-binding d r)
+      ∙ ap (λ (y : Binding). getD (indexAt text (d .big) (headerAt f (d .big) .sets) .sets) (y .set) noSet) (target-binding d r)
 
   size-is : stagesOf t f r l .plan .size ≡ m .size
   unfolding planFor _>>=_
@@ -159,27 +159,27 @@ module _ (t f : List ℕ) (r : Request) (l : ℕ) (z : stagesOf t f r l .refused
     findable : stagesOf t f r l .plan .offset < 4294967296 → stagesOf t f r l .plan .bits ≤ 4294967296 → Findable y (stagesOf t f r l) row
     findable o n = record {
       inside = rw set-is (longer text-fits inside);
-      some = rw set-is (some-entry text x (d .rows) row covered below);
+      some = rw set-is (some-entry (d .big) text x (d .rows) row covered below);
       size-most = rw size-is (size-most d sequence f before l);
       offset-most = o;
       bits-most = n;
       row-most = omega (arith, below, described t .rows-most);
     }
 
-    first-is : bitByHalving y (stagesOf t f r l .set) (stagesOf t f r l .plan .size) (stagesOf t f r l .plan .offset) (stagesOf t f r l .plan .bits) row
+    first-is : bitByHalving (stagesOf t f r l .big) y (stagesOf t f r l .set) (stagesOf t f r l .plan .size) (stagesOf t f r l .plan .offset) (stagesOf t f r l .plan .bits) row
         ≡ placeOf m row c .first
     unfolding padded
     first-is =
-        rw (e, set-is, size-is, offset-is, bits-is)
-        (bit-same text (replicate (l - length text) 0) x _ _ _ row inside (entry-known text x (d .rows) row covered below)
-        ∙ bit-is text x (d .rows) row covered below m c map-set)
+        rw (e, stages-big t f r l, set-is, size-is, offset-is, bits-is)
+        (bit-same (d .big) text (replicate (l - length text) 0) x _ _ _ row inside (entry-known (d .big) text x (d .rows) row covered below)
+        ∙ bit-is (d .big) text x (d .rows) row covered below m c map-set)
 
-    looks-is : record { looks = byHalving y (stagesOf t f r l .set) row .looks; entries = stagesOf t f r l .set .entries } ≡ looksOf m row c
+    looks-is : record { looks = byHalving (stagesOf t f r l .big) y (stagesOf t f r l .set) row .looks; entries = stagesOf t f r l .set .entries } ≡ looksOf m row c
     unfolding padded
     looks-is =
-        rw (e, set-is)
-        (ap (λ (n : Entry). record { looks = n .looks; entries = x .entries }) (halving-same text (replicate (l - length text) 0) x row inside)
-        ∙ looks-are text x (d .rows) row covered below m c map-set)
+        rw (e, stages-big t f r l, set-is)
+        (ap (λ (n : Entry). record { looks = n .looks; entries = x .entries }) (halving-same (d .big) text (replicate (l - length text) 0) x row inside)
+        ∙ looks-are (d .big) text x (d .rows) row covered below m c map-set)
 
 -- ---- the same in IncrementalStMan, where the check has found the cell already
 module _ (t f : List ℕ) (r : Request) (l : ℕ) (k : targetOf (describedAs t) r .incremental ≡ true) where
@@ -208,7 +208,7 @@ module _ (t f : List ℕ) (r : Request) (l : ℕ) (k : targetOf (describedAs t) 
 -- ---- `find_cell`
 module _ (y : List ℕ) (s : Staged) (r : Request) where
   abbrev here : Located
-  here = locatedBy y (s .set) (s .plan .size) (s .plan .offset) (s .plan .bits) (r .row)
+  here = locatedBy (s .big) y (s .set) (s .plan .size) (s .plan .offset) (s .plan .bits) (r .row)
 
   abbrev there : Located
   there = record { first = s .first; looks = 0; entries = 0 }

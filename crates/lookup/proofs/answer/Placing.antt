@@ -23,13 +23,13 @@ use Rattle.lookup_rules.proofs.Places.{map-fits}
 use Rattle.standard_rules.specs.Check.{refusalWith, checkedWith, refusalOf, checkedAs}
 
 module _ (d : Description) (sequence : ℕ) (f : List ℕ) (refused : Refusal) (l : ℕ) where
-  index-passed : refusalOf d sequence f refused l .number ≡ 0 → indexAt (indexTextOf f (headerAt f (d .big))) (headerAt f (d .big) .sets) .refused .number ≡ 0
+  index-passed : refusalOf d sequence f refused l .number ≡ 0 → indexAt (indexTextOf f (headerAt f (d .big))) (d .big) (headerAt f (d .big) .sets) .refused .number ≡ 0
   unfolding refusalWith
   index-passed z = search (then-left, then-right) depth 9
 
   -- the set and the bucket size that the check tells are the file's
   pub set-told : refusalOf d sequence f refused l .number ≡ 0
-      → (k : ℕ) → checkedAs d sequence f refused k l .set ≡ getD (indexAt (indexTextOf f (headerAt f (d .big))) (headerAt f (d .big) .sets) .sets) k noSet
+      → (k : ℕ) → checkedAs d sequence f refused k l .set ≡ getD (indexAt (indexTextOf f (headerAt f (d .big))) (d .big) (headerAt f (d .big) .sets) .sets) k noSet
   unfolding checkedWith
   set-told z k = rw (eq-eqb (refusalOf d sequence f refused l .number) 0 z)
 
@@ -39,7 +39,7 @@ module _ (d : Description) (sequence : ℕ) (f : List ℕ) (refused : Refusal) (
 
   map-sets : length (mapOf d sequence f .sets) ≡ headerAt f (d .big) .sets
   unfolding mapWith
-  map-sets = sets-length _ _ _ 0
+  map-sets = sets-length _ _ _ _ 0
 
   -- the set of a column that is kept is one of them
   pub set-known : refusalOf d sequence f refused l .number ≡ 0 → (c : ℕ) → Kept (mapOf d sequence f) c → columnAt (mapOf d sequence f) c .set < headerAt f (d .big) .sets
@@ -47,9 +47,9 @@ module _ (d : Description) (sequence : ℕ) (f : List ℕ) (refused : Refusal) (
 
   -- the map's set is the text's
   pub set-same : (k : ℕ) → k < headerAt f (d .big) .sets
-      → setAt (mapOf d sequence f) k ≡ mapSet (indexTextOf f (headerAt f (d .big))) (getD (indexAt (indexTextOf f (headerAt f (d .big))) (headerAt f (d .big) .sets) .sets) k noSet)
+      → setAt (mapOf d sequence f) k ≡ mapSet (d .big) (indexTextOf f (headerAt f (d .big))) (getD (indexAt (indexTextOf f (headerAt f (d .big))) (d .big) (headerAt f (d .big) .sets) .sets) k noSet)
   unfolding mapWith
-  set-same k h = sets-at _ _ noMapSet _ k h
+  set-same k h = sets-at _ _ _ noMapSet _ k h
 
   -- and its last rows cover the table's rows
   pub set-covered : refusalOf d sequence f refused l .number ≡ 0 → (k : ℕ) → k < headerAt f (d .big) .sets
@@ -58,9 +58,9 @@ module _ (d : Description) (sequence : ℕ) (f : List ℕ) (refused : Refusal) (
 
   -- its lists lie in the text
   pub set-inside : refusalOf d sequence f refused l .number ≡ 0 → (k : ℕ) → k < headerAt f (d .big) .sets
-      → SetInside (length (indexTextOf f (headerAt f (d .big)))) 4 (getD (indexAt (indexTextOf f (headerAt f (d .big))) (headerAt f (d .big) .sets) .sets) k noSet)
-  set-inside z k h = index-inside _ true Four _ (header-bounds f true (d .big) .sets-most) (index-passed z) k h
+      → SetInside (length (indexTextOf f (headerAt f (d .big)))) 4 (getD (indexAt (indexTextOf f (headerAt f (d .big))) (d .big) (headerAt f (d .big) .sets) .sets) k noSet)
+  set-inside z k h = index-inside _ (d .big) Four _ (header-bounds f (d .big) .sets-most) (index-passed z) k h
 
   pub size-most : mapOf d sequence f .size ≤ 1048576
   unfolding mapWith
-  size-most = header-bounds f true (d .big) .size-most
+  size-most = header-bounds f (d .big) .size-most

@@ -24,7 +24,7 @@ returns c =
     let g = target-found _ _ e (c .before .before .before .before .before .before .before .before .before .before .before .before .place-of .ensures .1) (c .before .before .before .before .before .before .before .before .before .column-if .ensures) (c .before .before .before .before .before .before .before .before .binding-if .ensures) (c .before .before .before .before .before .find-target .ensures) in (
       (
         stages-there _ _ _ _ e g (c .before .before .before .before .if1 .taken) (c .before .before .before .check .ensures) (c .before .before .no-set .ensures) (c .finish .ensures .0),
-        λ z k. no-text (c .before .before .before .before .if1 .taken) (same-kind _ _ _ _ (c .finish .ensures .0)) k,
+        λ z k. no-text (c .before .before .before .before .if1 .taken) (same-kind _ _ _ _ _ (c .finish .ensures .0)) k,
       ),
       c .finish .ensures .1,
     )
@@ -46,7 +46,7 @@ returns-2 c =
     let cs = gathered _ _ _ (c .before .before .before .before .before .before .before .before .before .before .before .before .before .before .loop .inv) (c .before .before .before .before .before .before .before .before .before .before .before .before .before .loop-test .left) in (
       (
         stages-here _ _ _ _ e g (c .before .before .before .before .before .before .before .before .before .before .before .before .before .before .before .if1 .left) cs (c .before .before .before .before .before .check2 .ensures .0) (c .finish2 .ensures .0),
-        λ z k. room-text _ _ _ e (c .before .before .before .before .before .check2 .ensures .1 (passed _ _ _ _ (c .finish2 .ensures .0) z)),
+        λ z k. room-text _ _ _ e (c .before .before .before .before .before .check2 .ensures .1 (passed _ _ _ _ _ (c .finish2 .ensures .0) z)),
       ),
       c .finish2 .ensures .1,
     )

@@ -17,19 +17,19 @@ returns-2 : tie.Need-returns-2
 returns-2 c = out-index _ _ _ _ _ _ _ _ (c .before .before .before .before .before .before .before .before .before .read-header .ensures .0) (c .before .before .before .before .before .before .before .before .before-index .ensures) (c .before .before .before .before .before .before .if1 .left) (c .before .before .before .before .gather-index .ensures .0) (not-true _ (c .before .if2 .taken)) (c .refuse2 .ensures)
 
 returns-3 : tie.Need-returns-3
-returns-3 c = out-text _ _ _ _ _ _ _ _ (c .before .before .before .before .before .before .before .before .before .before .before .before .before .before .before .read-header .ensures .0) (c .before .before .before .before .before .before .before .before .before .before .before .before .before .before .before-index .ensures) (c .before .before .before .before .before .before .before .before .before .before .before .before .if1 .left) (c .before .before .before .before .before .before .before .before .before .before .gather-index .ensures .0) (not-false _ (c .before .before .before .before .before .before .before .if2 .left)) (index-is _ _ _ (area-passed _ _ _ _ (c .before .before .before .before .before .before .before .before .before .before .before .before .before .before .before .read-header .ensures .1 .0) (c .before .before .before .before .before .before .before .before .before .before .before .before .before .before .before-index .ensures) (c .before .before .before .before .before .before .before .before .before .before .before .before .if1 .left)) (c .before .before .before .before .before .before .before .before .before .before .gather-index .ensures .0) (not-false _ (c .before .before .before .before .before .before .before .if2 .left)) (c .before .before .before .before .before .before .before .before .before .before .gather-index .ensures .1) (c .before .before .before .before .before .part .ensures) (c .before .before .before .before .read-index .ensures .0)) (c .before .if3 .taken) (c .refuse3 .ensures)
+returns-3 c = out-text _ _ _ _ _ _ _ _ (c .before .before .before .before .before .before .before .before .before .before .before .before .before .before .before .read-header .ensures .0) (c .before .before .before .before .before .before .before .before .before .before .before .before .before .before .before-index .ensures) (c .before .before .before .before .before .before .before .before .before .before .before .before .if1 .left) (c .before .before .before .before .before .before .before .before .before .before .gather-index .ensures .0) (not-false _ (c .before .before .before .before .before .before .before .if2 .left)) (index-is _ _ _ (area-passed _ _ _ _ (c .before .before .before .before .before .before .before .before .before .before .before .before .before .before .before .read-header .ensures .1 .0) (c .before .before .before .before .before .before .before .before .before .before .before .before .before .before .before-index .ensures) (c .before .before .before .before .before .before .before .before .before .before .before .before .if1 .left)) (c .before .before .before .before .before .before .before .before .before .before .gather-index .ensures .0) (not-false _ (c .before .before .before .before .before .before .before .if2 .left)) (c .before .before .before .before .before .before .before .before .before .before .gather-index .ensures .1) (c .before .before .before .before .before .part .ensures) _ (c .before .before .before .before .read-index .ensures .0)) (c .before .if3 .taken) (c .refuse3 .ensures)
 
 free-list-ok-requires : tie.Need-free-list-ok-requires
 free-list-ok-requires c κs = (area-passed _ _ _ _ (c .before .before .before .before .before .before .before .before .before .before .before .before .before .before .read-header .ensures .1 .0) (c .before .before .before .before .before .before .before .before .before .before .before .before .before .before-index .ensures) (c .before .before .before .before .before .before .before .before .before .before .before .if1 .left))
 
 returns-4 : tie.Need-returns-4
-returns-4 c = out-free _ _ _ _ _ _ _ _ (c .before .before .before .before .before .before .before .before .before .before .before .before .before .before .before .before .before .read-header .ensures .0) (c .before .before .before .before .before .before .before .before .before .before .before .before .before .before .before .before .before-index .ensures) (c .before .before .before .before .before .before .before .before .before .before .before .before .before .before .if1 .left) (c .before .before .before .before .before .before .before .before .before .before .before .before .gather-index .ensures .0) (not-false _ (c .before .before .before .before .before .before .before .before .before .if2 .left)) (index-is _ _ _ (area-passed _ _ _ _ (c .before .before .before .before .before .before .before .before .before .before .before .before .before .before .before .before .before .read-header .ensures .1 .0) (c .before .before .before .before .before .before .before .before .before .before .before .before .before .before .before .before .before-index .ensures) (c .before .before .before .before .before .before .before .before .before .before .before .before .before .before .if1 .left)) (c .before .before .before .before .before .before .before .before .before .before .before .before .gather-index .ensures .0) (not-false _ (c .before .before .before .before .before .before .before .before .before .if2 .left)) (c .before .before .before .before .before .before .before .before .before .before .before .before .gather-index .ensures .1) (c .before .before .before .before .before .before .before .part .ensures) (c .before .before .before .before .before .before .read-index .ensures .0)) (c .before .before .before .if3 .left) (c .before .before .free-list-ok .ensures) (not-true _ (c .before .if4 .taken)) (c .refuse4 .ensures)
+returns-4 c = out-free _ _ _ _ _ _ _ _ (c .before .before .before .before .before .before .before .before .before .before .before .before .before .before .before .before .before .read-header .ensures .0) (c .before .before .before .before .before .before .before .before .before .before .before .before .before .before .before .before .before-index .ensures) (c .before .before .before .before .before .before .before .before .before .before .before .before .before .before .if1 .left) (c .before .before .before .before .before .before .before .before .before .before .before .before .gather-index .ensures .0) (not-false _ (c .before .before .before .before .before .before .before .before .before .if2 .left)) (index-is _ _ _ (area-passed _ _ _ _ (c .before .before .before .before .before .before .before .before .before .before .before .before .before .before .before .before .before .read-header .ensures .1 .0) (c .before .before .before .before .before .before .before .before .before .before .before .before .before .before .before .before .before-index .ensures) (c .before .before .before .before .before .before .before .before .before .before .before .before .before .before .if1 .left)) (c .before .before .before .before .before .before .before .before .before .before .before .before .gather-index .ensures .0) (not-false _ (c .before .before .before .before .before .before .before .before .before .if2 .left)) (c .before .before .before .before .before .before .before .before .before .before .before .before .gather-index .ensures .1) (c .before .before .before .before .before .before .before .part .ensures) _ (c .before .before .before .before .before .before .read-index .ensures .0)) (c .before .before .before .if3 .left) (c .before .before .free-list-ok .ensures) (not-true _ (c .before .if4 .taken)) (c .refuse4 .ensures)
 
 check-map-requires : tie.Need-check-map-requires
 check-map-requires c κs = ((area-passed _ _ _ _ (c .before .before .before .before .before .before .before .before .before .before .before .before .before .before .before .before .before .read-header .ensures .1 .0) (c .before .before .before .before .before .before .before .before .before .before .before .before .before .before .before .before .before-index .ensures) (c .before .before .before .before .before .before .before .before .before .before .before .before .before .before .if1 .left)), ((c .before .before .before .before .before .before .before .before .before .before .before .before .before .before .before .before .before .before .before .before .pre .0, c .before .before .before .before .before .before .before .before .before .before .before .before .before .before .before .before .before .read-header .ensures .1 .0 .sets-most, c .before .before .before .before .before .before .read-index .ensures .1 (c .before .before .before .if3 .left)), c .before .before .before .before .before .before .before .before .before .before .before .before .before .before .before .before .before .before .before .before .pre .1))
 
 returns-5 : tie.Need-returns-5
-returns-5 c = out-map _ _ _ _ _ _ _ _ (c .before .before .before .before .before .before .before .before .before .before .before .before .before .before .before .before .before .before .read-header .ensures .0) (c .before .before .before .before .before .before .before .before .before .before .before .before .before .before .before .before .before .before-index .ensures) (c .before .before .before .before .before .before .before .before .before .before .before .before .before .before .before .if1 .left) (c .before .before .before .before .before .before .before .before .before .before .before .before .before .gather-index .ensures .0) (not-false _ (c .before .before .before .before .before .before .before .before .before .before .if2 .left)) (index-is _ _ _ (area-passed _ _ _ _ (c .before .before .before .before .before .before .before .before .before .before .before .before .before .before .before .before .before .before .read-header .ensures .1 .0) (c .before .before .before .before .before .before .before .before .before .before .before .before .before .before .before .before .before .before-index .ensures) (c .before .before .before .before .before .before .before .before .before .before .before .before .before .before .before .if1 .left)) (c .before .before .before .before .before .before .before .before .before .before .before .before .before .gather-index .ensures .0) (not-false _ (c .before .before .before .before .before .before .before .before .before .before .if2 .left)) (c .before .before .before .before .before .before .before .before .before .before .before .before .before .gather-index .ensures .1) (c .before .before .before .before .before .before .before .before .part .ensures) (c .before .before .before .before .before .before .before .read-index .ensures .0)) (c .before .before .before .before .if3 .left) (c .before .before .before .free-list-ok .ensures) (not-false _ (c .before .before .if4 .left)) (map-is _ _ _ (area-passed _ _ _ _ (c .before .before .before .before .before .before .before .before .before .before .before .before .before .before .before .before .before .before .read-header .ensures .1 .0) (c .before .before .before .before .before .before .before .before .before .before .before .before .before .before .before .before .before .before-index .ensures) (c .before .before .before .before .before .before .before .before .before .before .before .before .before .before .before .if1 .left)) (c .before .before .before .before .before .before .before .before .before .before .before .before .before .gather-index .ensures .0) (not-false _ (c .before .before .before .before .before .before .before .before .before .before .if2 .left)) (c .before .before .before .before .before .before .before .before .before .before .before .before .before .gather-index .ensures .1) (c .before .before .before .before .before .before .before .before .part .ensures) _ _ _ refl) (c .check-map .ensures) (room-holds _ _ _ (area-passed _ _ _ _ (c .before .before .before .before .before .before .before .before .before .before .before .before .before .before .before .before .before .before .read-header .ensures .1 .0) (c .before .before .before .before .before .before .before .before .before .before .before .before .before .before .before .before .before .before-index .ensures) (c .before .before .before .before .before .before .before .before .before .before .before .before .before .before .before .if1 .left)) (c .before .before .before .before .before .before .before .before .before .before .before .before .before .gather-index .ensures .0) (not-false _ (c .before .before .before .before .before .before .before .before .before .before .if2 .left)) (c .before .before .before .before .before .before .before .before .before .before .before .before .before .gather-index .ensures .1) (c .before .before .before .before .before .before .before .before .part .ensures))
+returns-5 c = out-map _ _ _ _ _ _ _ _ (c .before .before .before .before .before .before .before .before .before .before .before .before .before .before .before .before .before .before .read-header .ensures .0) (c .before .before .before .before .before .before .before .before .before .before .before .before .before .before .before .before .before .before-index .ensures) (c .before .before .before .before .before .before .before .before .before .before .before .before .before .before .before .if1 .left) (c .before .before .before .before .before .before .before .before .before .before .before .before .before .gather-index .ensures .0) (not-false _ (c .before .before .before .before .before .before .before .before .before .before .if2 .left)) (index-is _ _ _ (area-passed _ _ _ _ (c .before .before .before .before .before .before .before .before .before .before .before .before .before .before .before .before .before .before .read-header .ensures .1 .0) (c .before .before .before .before .before .before .before .before .before .before .before .before .before .before .before .before .before .before-index .ensures) (c .before .before .before .before .before .before .before .before .before .before .before .before .before .before .before .if1 .left)) (c .before .before .before .before .before .before .before .before .before .before .before .before .before .gather-index .ensures .0) (not-false _ (c .before .before .before .before .before .before .before .before .before .before .if2 .left)) (c .before .before .before .before .before .before .before .before .before .before .before .before .before .gather-index .ensures .1) (c .before .before .before .before .before .before .before .before .part .ensures) _ (c .before .before .before .before .before .before .before .read-index .ensures .0)) (c .before .before .before .before .if3 .left) (c .before .before .before .free-list-ok .ensures) (not-false _ (c .before .before .if4 .left)) (map-is _ _ _ (area-passed _ _ _ _ (c .before .before .before .before .before .before .before .before .before .before .before .before .before .before .before .before .before .before .read-header .ensures .1 .0) (c .before .before .before .before .before .before .before .before .before .before .before .before .before .before .before .before .before .before-index .ensures) (c .before .before .before .before .before .before .before .before .before .before .before .before .before .before .before .if1 .left)) (c .before .before .before .before .before .before .before .before .before .before .before .before .before .gather-index .ensures .0) (not-false _ (c .before .before .before .before .before .before .before .before .before .before .if2 .left)) (c .before .before .before .before .before .before .before .before .before .before .before .before .before .gather-index .ensures .1) (c .before .before .before .before .before .before .before .before .part .ensures) _ _ _ _ refl) (c .check-map .ensures) (room-holds _ _ _ (area-passed _ _ _ _ (c .before .before .before .before .before .before .before .before .before .before .before .before .before .before .before .before .before .before .read-header .ensures .1 .0) (c .before .before .before .before .before .before .before .before .before .before .before .before .before .before .before .before .before .before-index .ensures) (c .before .before .before .before .before .before .before .before .before .before .before .before .before .before .before .if1 .left)) (c .before .before .before .before .before .before .before .before .before .before .before .before .before .gather-index .ensures .0) (not-false _ (c .before .before .before .before .before .before .before .before .before .before .if2 .left)) (c .before .before .before .before .before .before .before .before .before .before .before .before .before .gather-index .ensures .1) (c .before .before .before .before .before .before .before .before .part .ensures))
 
 pub check-spec : {M : Type 1} → statement M
 check-spec =

@@ -13,34 +13,34 @@ use Rattle.buckets.proofs.marks.Marking.{Marks, marks-then}
 use Rattle.bytes_at.specs.Number.{numbersAt}
 use Rattle.standard.specs.Sets.{rowsFit, dataBy}
 
-module _ (rows : ℕ) (text entries pers lasts : List ℕ) where
-  pub fit-none : (m k : ℕ) → m ≤ 0 → rowsFit rows text entries pers lasts m k ≡ true
+module _ (rows : ℕ) (big : Bool) (text entries pers lasts : List ℕ) where
+  pub fit-none : (m k : ℕ) → m ≤ 0 → rowsFit rows big text entries pers lasts m k ≡ true
   unfolding rowsFit
   fit-none zero k h = refl
   fit-none (suc m) k h = absurd (not-suc-le-zero h)
 
-  fit-more : (m k : ℕ) {r : Bool} → 0 < m → r ≡ covers rows (getD pers k 0) 0 (numbersAt true 4 text (getD lasts k 0) (getD entries k 0))
-      → rowsFit rows text entries pers lasts m k ≡ r && rowsFit rows text entries pers lasts (m - 1) (k + 1)
+  fit-more : (m k : ℕ) {r : Bool} → 0 < m → r ≡ covers rows (getD pers k 0) 0 (numbersAt big 4 text (getD lasts k 0) (getD entries k 0))
+      → rowsFit rows big text entries pers lasts m k ≡ r && rowsFit rows big text entries pers lasts (m - 1) (k + 1)
   unfolding rowsFit
   fit-more zero k h e = absurd (not-suc-le-zero h)
   fit-more (suc m) k h e = rw (sub-one, add-one, e)
 
-  pub fit-on : (m k : ℕ) {r : Bool} → 0 < m → r ≡ covers rows (getD pers k 0) 0 (numbersAt true 4 text (getD lasts k 0) (getD entries k 0)) → r ≡ true
-      → rowsFit rows text entries pers lasts m k ≡ rowsFit rows text entries pers lasts (m - 1) (k + 1)
+  pub fit-on : (m k : ℕ) {r : Bool} → 0 < m → r ≡ covers rows (getD pers k 0) 0 (numbersAt big 4 text (getD lasts k 0) (getD entries k 0)) → r ≡ true
+      → rowsFit rows big text entries pers lasts m k ≡ rowsFit rows big text entries pers lasts (m - 1) (k + 1)
   fit-on m k h e t = fit-more m k h e ∙ rw t
 
-  pub fit-off : (m k : ℕ) {r : Bool} → 0 < m → r ≡ covers rows (getD pers k 0) 0 (numbersAt true 4 text (getD lasts k 0) (getD entries k 0)) → r ≡ false
-      → rowsFit rows text entries pers lasts m k ≡ false
+  pub fit-off : (m k : ℕ) {r : Bool} → 0 < m → r ≡ covers rows (getD pers k 0) 0 (numbersAt big 4 text (getD lasts k 0) (getD entries k 0)) → r ≡ false
+      → rowsFit rows big text entries pers lasts m k ≡ false
   fit-off m k h e t = fit-more m k h e ∙ rw t
 
-module _ (text entries buckets : List ℕ) where
-  pub data-none : (m k : ℕ) → m ≤ 0 → dataBy text entries buckets m k ≡ []
+module _ (big : Bool) (text entries buckets : List ℕ) where
+  pub data-none : (m k : ℕ) → m ≤ 0 → dataBy big text entries buckets m k ≡ []
   unfolding dataBy
   data-none zero k h = refl
   data-none (suc m) k h = absurd (not-suc-le-zero h)
 
   pub data-more : (m k : ℕ) → 0 < m
-      → dataBy text entries buckets m k ≡ numbersAt true 4 text (getD buckets k 0) (getD entries k 0) ++ dataBy text entries buckets (m - 1) (k + 1)
+      → dataBy big text entries buckets m k ≡ numbersAt big 4 text (getD buckets k 0) (getD entries k 0) ++ dataBy big text entries buckets (m - 1) (k + 1)
   unfolding dataBy
   data-more zero k h = absurd (not-suc-le-zero h)
   data-more (suc m) k h = rw (sub-one, add-one)

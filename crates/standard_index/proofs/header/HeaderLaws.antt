@@ -10,7 +10,7 @@ use Rattle.aipsio_rules.specs.declared.Cursor.{Cursor}
 use Rattle.standard_rules.specs.declared.BucketFields.{BucketFields}
 use Rattle.standard_rules.specs.declared.IndexFields.{IndexFields}
 use Rattle.standard_rules.specs.declared.Header.{Header}
-use Rattle.standard_rules.specs.Header.{headed, headerIn, HeaderBounds}
+use Rattle.standard_rules.specs.Header.{headed, headerAt, HeaderBounds}
 use Rattle.standard_rules.proofs.HeaderBounds.{headed-on, headed-off, header-bounds}
 use Rattle.standard_index.specs.Bounds.{HeaderWords}
 
@@ -24,6 +24,6 @@ module _ (c : Cursor) (b : BucketFields) (i : IndexFields) where
         | no h ↦ rw (← (headed-off c b i h refl)) (record { free-count = omega arith; first-free = omega arith; index-count = omega arith; first-index = omega arith; offset = omega arith })
       ]
 
-pub header-answered : (s : List ℕ) (order : Bool) (big : Bool) {h : Header} → h ≡ headerIn s order big → HeaderWords h
-    → (h ≡ headerIn s order big) × (HeaderBounds h × HeaderWords h)
-header-answered s order big e w = (e, (rw e (header-bounds s order big), w))
+pub header-answered : (s : List ℕ) (big : Bool) {h : Header} → h ≡ headerAt s big → HeaderWords h
+    → (h ≡ headerAt s big) × (HeaderBounds h × HeaderWords h)
+header-answered s big e w = (e, (rw e (header-bounds s big), w))

@@ -111,16 +111,16 @@ indexed-clean c all e = go (eqb (c .refused) 0) refl
     go true q = (eqb-true (c .refused) 0 q, rw q)
     go false q = absurd (eqb-false (c .refused) 0 q (rw q at e))
 
-module _ (s : List ℕ) (order : Bool) (width : Width) (n : ℕ) (h : n ≤ 16) where
+module _ (s : List ℕ) (big : Bool) (width : Width) (n : ℕ) (h : n ≤ 16) where
   -- The lists of each set of an index text that is not refused lie in the text.
-  pub index-inside : indexIn s order width n .refused .number ≡ 0 → (k : ℕ) → k < n → SetInside (length s) (bytesOf width) (getD (indexIn s order width n .sets) k noSet)
+  pub index-inside : indexIn s big width n .refused .number ≡ 0 → (k : ℕ) → k < n → SetInside (length s) (bytesOf width) (getD (indexIn s big width n .sets) k noSet)
   unfolding indexIn setsAt _>>=_
   index-inside e k l =
-      let start : Cursor = record { at = 0; end = length s; big = order; refused = 0 } in
+      let start : Cursor = record { at = 0; end = length s; big = big; refused = 0 } in
       let all = after (setInto s width) (noSets start) n in
       let w = indexed-clean (judged (all .next) (all .next .at) (eqb (all .next .at) (all .next .end)) 7) all e in
       rw (w .1) (turns-inside s start width n h (clean-before (judged-keeps (all .next) _ _ 7) (w .0)) .each-inside k l)
 
-  pub index-answered : {ix : Index} → ix ≡ indexIn s order width n
-      → (ix ≡ indexIn s order width n) × (ix .refused .number ≡ 0 → (k : ℕ) → k < n → SetInside (length s) (bytesOf width) (getD (ix .sets) k noSet))
+  pub index-answered : {ix : Index} → ix ≡ indexIn s big width n
+      → (ix ≡ indexIn s big width n) × (ix .refused .number ≡ 0 → (k : ℕ) → k < n → SetInside (length s) (bytesOf width) (getD (ix .sets) k noSet))
   index-answered {ix} q = (q, λ e k l. rw q (index-inside (rw q at e) k l))

@@ -31,22 +31,22 @@ returns c = (
 returns-2 : tie.Need-returns-2
 unfolding describedAs
 returns-2 c = (
-  via _ (c .before .before .before .before .before .before .before .before .before .before .before .before .before .before .before .before .before .before .before .before .before .before .judge .ensures) (
-      via _ (c .before .before .before .before .before .before .before .before .before .before .before .before .before .before .before .before .before .before .before .before .before .mark .ensures) (
-      via _ (c .before .before .before .before .before .before .before .before .before .before .before .before .before .before .before .before .before .before .before .before .«open» .ensures) (
-      via _ (c .before .before .before .before .before .before .before .before .before .before .before .before .before .before .before .before .before .before .before .read-head .ensures) (
-      via _ (c .before .before .before .before .before .before .before .before .before .before .before .before .before .before .before .before .before .before .open2 .ensures) (
-      via _ (c .before .before .before .before .before .before .before .before .before .before .before .before .before .before .before .before .before .read-desc-head .ensures .0) (
-      via _ (c .before .before .before .before .before .before .before .before .before .before .before .before .before .before .before .before .read-columns .ensures) (
-      via _ (c .before .before .before .before .before .before .before .before .before .before .before .before .before .before .before .close .ensures) (
-      via _ (c .before .before .before .before .before .before .before .before .before .before .before .before .before .before .read-head2 .ensures .0) (
-      via _ (c .before .before .before .before .before .before .before .before .before .before .before .before .before .read-managers .ensures) (
-      via _ (c .before .before .before .before .before .before .before .before .before .read-owners .ensures .0) (
-      via _ (c .before .before .before .before .before .before .before .read-infos .ensures) (
-      via _ (c .before .before .before .before .before .before .close2 .ensures) (
-      via _ (c .before .before .bind .ensures) (
-      rw (eq-eqb _ _ (c .before .before .before .before .before .if1 .left)))))))))))))))),
-  (c .before .before .before .before .before .before .before .before .before .before .before .before .before .before .before .before .before .read-desc-head .ensures .1, c .before .before .before .before .before .before .before .before .before .before .before .before .before .before .read-head2 .ensures .1),
+  via _ (c .before .before .before .before .before .before .before .before .before .before .before .before .before .before .before .before .before .before .before .before .before .before .before .judge .ensures) (
+      via _ (c .before .before .before .before .before .before .before .before .before .before .before .before .before .before .before .before .before .before .before .before .before .before .mark .ensures) (
+      via _ (c .before .before .before .before .before .before .before .before .before .before .before .before .before .before .before .before .before .before .before .before .before .«open» .ensures) (
+      via _ (c .before .before .before .before .before .before .before .before .before .before .before .before .before .before .before .before .before .before .before .before .read-head .ensures) (
+      via _ (c .before .before .before .before .before .before .before .before .before .before .before .before .before .before .before .before .before .before .before .open2 .ensures) (
+      via _ (c .before .before .before .before .before .before .before .before .before .before .before .before .before .before .before .before .before .before .read-desc-head .ensures .0) (
+      via _ (c .before .before .before .before .before .before .before .before .before .before .before .before .before .before .before .before .before .read-columns .ensures) (
+      via _ (c .before .before .before .before .before .before .before .before .before .before .before .before .before .before .before .before .close .ensures) (
+      via _ (c .before .before .before .before .before .before .before .before .before .before .before .before .before .before .before .read-head2 .ensures .0) (
+      via _ (c .before .before .before .before .before .before .before .before .before .before .before .before .before .before .read-managers .ensures) (
+      via _ (c .before .before .before .before .before .before .before .before .before .before .read-owners .ensures .0) (
+      via _ (c .before .before .before .before .before .before .before .before .read-infos .ensures) (
+      via _ (c .before .before .before .before .before .before .before .close2 .ensures) (
+      via _ (c .before .bind .ensures) (
+      rw (eq-eqb _ _ (c .before .before .before .before .before .before .if1 .left)))))))))))))))),
+  (c .before .before .before .before .before .before .before .before .before .before .before .before .before .before .before .before .before .before .read-desc-head .ensures .1, c .before .before .before .before .before .before .before .before .before .before .before .before .before .before .before .read-head2 .ensures .1),
 )
 
 pub describe-spec : {M : Type 1} → statement M
@@ -69,5 +69,5 @@ describe-spec =
     free
     free
     returns
-    (λ c κs. (c .before .before .before .before .before .before .before .before .before .before .before .before .before .before .read-desc-head .ensures .1, c .before .before .before .before .before .before .read-owners .ensures .1))
+    (λ c κs. c .before .before .before .before .before .before .before .before .before .before .before .before .before .before .before .before .read-desc-head .ensures .1)
     returns-2)

@@ -3,10 +3,8 @@
 use mathlib.Core.Path.{_≡_}
 use mathlib.Core.List.{List, [], _∷_}
 use mathlib.Core.Bool.{Bool}
-use Prim.Native.Nat.{ℕ, zero, suc, _+_, _*_, _≤_, zero-le}
+use Prim.Native.Nat.{ℕ, zero, suc, _+_, _≤_, zero-le}
 use native.Mathlib.Omega.{arith}
-use mir.Val.{Fits}
-use mir.Syntax.{w64}
 use lib.ListN.{getD, set, replicate}
 use Rattle.bytes_at.specs.Steps.{after, _>>=_}
 use Rattle.table_rules.specs.declared.Owners.{Owners}
@@ -42,7 +40,3 @@ module _ (s : List ℕ) (arrays : List Bool) (numbers : List ℕ) (m : ℕ) wher
   -- the state of a loop that starts with no columns
   pub counted : (x : Owners) (i : ℕ) {y : Owners} → y ≡ after (ownerInto s arrays numbers m) x i → AtMost (x .counts) 0 → i ≤ 64 → AtMost (y .counts) 64
   counted x i e h l k = rw e (omega (arith, turns-le x h i k))
-
--- DMInfo's length
-pub eight-fits : {n : ℕ} → n ≤ 64 → Fits w64 (8 * n)
-eight-fits h = omega arith

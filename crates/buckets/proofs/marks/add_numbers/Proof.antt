@@ -1,6 +1,5 @@
 -- `buckets::marks::add_numbers` meets its contract. The loop's invariant: the numbers that are left decide, and stand in the text.
 use Prim.Native.Nat.{_+_, _*_, _≤_}
-use mathlib.Core.Bool.{true}
 use native.Mathlib.Omega.{arith}
 use borrow.Author.Needs.{needs}
 use borrow.Author.Tests.{not-true, not-false}
@@ -11,11 +10,11 @@ use Rattle.buckets.proofs.marks.add_numbers.Statement.{statement}
 use Rattle.buckets.proofs.marks.add_numbers.Tie as tie
 
 abbrev Inv-loop : tie.InvT-loop
-Inv-loop seen₀ nb text from n at₀ left₀ seen at left =
-    (Marking nb seen₀ (numbersAt true 4 text from n) seen (numbersAt true 4 text at left)) × (at + left * 4 ≤ length text)
+Inv-loop seen₀ nb text big from n at₀ left₀ seen at left =
+    (Marking nb seen₀ (numbersAt big 4 text from n) seen (numbersAt big 4 text at left)) × (at + left * 4 ≤ length text)
 
 abbrev μ-loop : tie.MeasureT-loop
-μ-loop seen₀ nb text from n at₀ left₀ seen at left = left
+μ-loop seen₀ nb text big from n at₀ left₀ seen at left = left
 
 pub add-numbers-spec : {M : Type 1} → statement M
 add-numbers-spec =

@@ -1,5 +1,4 @@
 -- `incremental::text::read_index` meets its contract: its calls compose as the definition says, and both lists lie in the file.
-use mathlib.Core.Bool.{true}
 use borrow.Author.Needs.{needs}
 use Rattle.bytes_at.proofs.Stepped.{via, free}
 use Rattle.incremental_rules.specs.Index.{indexIn}
@@ -10,7 +9,7 @@ use Rattle.incremental.proofs.text.read_index.Tie as tie
 returns : tie.Need-returns
 unfolding indexIn
 returns c =
-    index-answered _ true 4 _ (
+    index-answered _ _ 4 _ (
     via _ (c .before .before .before .before .before .before .before .mark .ensures) (
     via _ (c .before .before .before .before .before .before .«open» .ensures) (
     via _ (c .before .before .before .before .before .uint .ensures .0) (

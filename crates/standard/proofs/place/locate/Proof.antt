@@ -27,7 +27,7 @@ add-first-3 c = let p : c .before .word .result * (c .before .before .before .be
 
 returns-2 : tie.Need-returns-2
 returns-2 c = (
-  λ h. located _ _ _ _ _ _ (c .before .before .find-entry .ensures .0) (c .before .word .ensures .0) (c .local-row .ensures),
+  λ h. located _ _ _ _ _ _ _ (c .before .before .find-entry .ensures .0) (c .before .word .ensures .0) (c .local-row .ensures),
   λ z. absurd (c .before .before .before .if1 .left z),
 )
 

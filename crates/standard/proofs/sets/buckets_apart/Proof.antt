@@ -14,7 +14,7 @@ mark-sets-requires c κs = (omega arith, omega arith, c .before .before .before 
 returns : tie.Need-returns
 returns c =
     let a = c .before .before .before .before .before .args in
-    apart-first _ (omega arith) (dataBy (a .text .now) (a .entries .now) (a .buckets .now) (a .m) 0) (links (a .f .now) (a .size) (a .ik) (a .ib)) (links (a .f .now) (a .size) (a .fk) (a .fb)) (c .before .mark-sets .ensures) (not-true _ (c .if1 .taken))
+    apart-first _ (omega arith) (dataBy (a .big) (a .text .now) (a .entries .now) (a .buckets .now) (a .m) 0) (links (a .f .now) (a .size) (a .ik) (a .ib)) (links (a .f .now) (a .size) (a .fk) (a .fb)) (c .before .mark-sets .ensures) (not-true _ (c .if1 .taken))
 
 returns-2 : tie.Need-returns-2
 returns-2 c = apart-second _ (omega arith) _ _ _ (c .before .before .before .before .mark-sets .ensures) (not-false _ (c .before .before .before .if1 .left)) (c .before .add-chain .ensures) (not-true _ (c .if2 .taken))

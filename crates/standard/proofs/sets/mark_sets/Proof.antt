@@ -11,26 +11,26 @@ use Rattle.standard.proofs.sets.mark_sets.Statement.{statement}
 use Rattle.standard.proofs.sets.mark_sets.Tie as tie
 
 abbrev Inv-loop : tie.InvT-loop
-Inv-loop seen₀ nb text entries buckets m left₀ k₀ seen left k =
-    (Marking nb seen₀ (dataBy text entries buckets m 0) seen (dataBy text entries buckets left k)) × (k + left ≡ m)
+Inv-loop seen₀ nb text big entries buckets m left₀ k₀ seen left k =
+    (Marking nb seen₀ (dataBy big text entries buckets m 0) seen (dataBy big text entries buckets left k)) × (k + left ≡ m)
 
 abbrev μ-loop : tie.MeasureT-loop
-μ-loop seen₀ nb text entries buckets m left₀ k₀ seen left k = left
+μ-loop seen₀ nb text big entries buckets m left₀ k₀ seen left k = left
 
 add-numbers-requires : tie.Need-add-numbers-requires Inv-loop μ-loop
 add-numbers-requires c κs = (omega arith, c .before .before .before .before .before .before .pre .2 (c .before .before .before .before .loop .k) (omega arith))
 
 returns : tie.Need-returns Inv-loop μ-loop
-returns c = part-stop (c .before .before .before .before .before .before .loop .inv .0) _ _ (data-more _ _ _ _ _ (omega arith)) (c .before .add-numbers .ensures) (not-true _ (c .if1 .taken))
+returns c = part-stop (c .before .before .before .before .before .before .loop .inv .0) _ _ (data-more _ _ _ _ _ _ (omega arith)) (c .before .add-numbers .ensures) (not-true _ (c .if1 .taken))
 
 loop-again : tie.Need-loop-again Inv-loop μ-loop
 loop-again c = (
-  part-more (c .before .before .before .before .before .before .loop .inv .0) _ _ (data-more _ _ _ _ _ (omega arith)) (c .before .add-numbers .ensures) (not-false _ (c .if1 .left)),
+  part-more (c .before .before .before .before .before .before .loop .inv .0) _ _ (data-more _ _ _ _ _ _ (omega arith)) (c .before .add-numbers .ensures) (not-false _ (c .if1 .left)),
   omega arith,
 )
 
 returns-2 : tie.Need-returns-2 Inv-loop μ-loop
-returns-2 c = marking-end (c .before .loop .inv .0) (data-none _ _ _ _ _ (omega arith))
+returns-2 c = marking-end (c .before .loop .inv .0) (data-none _ _ _ _ _ _ (omega arith))
 
 pub mark-sets-spec : {M : Type 1} → statement M
 mark-sets-spec =

@@ -10,29 +10,27 @@ use Rattle.bytes_at.proofs.Loops.{after-none, after-more, after-all}
 use Rattle.bytes_at.proofs.Stepped.{via, free}
 use Rattle.table_rules.specs.declared.Binding.{Binding}
 use Rattle.table_rules.specs.ColumnSet.{bindingAt, bindingsAt, noOwner}
-use Rattle.table_column_set.proofs.info.Counts.{eight-fits}
 use Rattle.table_column_set.proofs.bindings.bind.Statement.{statement}
 use Rattle.table_column_set.proofs.bindings.bind.Tie as tie
 
 abbrev Inv-loop : tie.InvT-loop
-Inv-loop s n owners counts ours starts bindings₀ i₀ bindings i =
-    (i ≤ n) × (bindings ≡ after (λ (bs : List Binding) (k : ℕ). set bs k (bindingAt s owners counts ours starts k)) bindings₀ i)
+Inv-loop s n owners told sets offsets bindings₀ i₀ bindings i =
+    (i ≤ n) × (bindings ≡ after (λ (bs : List Binding) (k : ℕ). set bs k (bindingAt s owners told sets offsets k)) bindings₀ i)
 
 abbrev μ-loop : tie.MeasureT-loop
-μ-loop s n owners counts ours starts bindings₀ i₀ bindings i = n - i
+μ-loop s n owners told sets offsets bindings₀ i₀ bindings i = n - i
 
 loop-again : tie.Need-loop-again Inv-loop μ-loop
 unfolding bindingAt noOwner
 loop-again c = (
   omega arith,
-  after-more _ _ _ (c .before .before .before .before .before .before .before .before .before .before .before .loop .inv .1) (
-      ap (set (c .before .before .before .before .before .before .before .before .before .before .before .loop .bindings) (c .before .before .before .before .before .before .before .before .before .before .before .loop .i)) (
+  after-more _ _ _ (c .before .before .before .before .before .before .before .before .before .before .loop .inv .1) (
+      ap (set (c .before .before .before .before .before .before .before .before .before .before .loop .bindings) (c .before .before .before .before .before .before .before .before .before .before .loop .i)) (
       via _ refl (
-      via _ (c .before .before .before .before .before .before .number-at .ensures) (
-      via _ (c .before .before .before .before .number-at2 .ensures) (
-      via _ (c .before .before .flag-at .ensures) (
-      via _ (c .before .part .ensures) (
-      c .read-binding .ensures))))))),
+      via _ (c .before .before .before .before .before .flag-at .ensures) (
+      via _ (c .before .before .before .number-at .ensures) (
+      via _ (c .before .number-at2 .ensures) (
+      c .read-binding .ensures)))))),
 )
 
 returns : tie.Need-returns Inv-loop μ-loop
@@ -52,9 +50,7 @@ bind-spec =
     free
     free
     free
-    (λ c. eight-fits (rw (c .before .before .before .before .number-at .ensures) (c .before .before .before .before .before .before .before .before .before .before .before .before .pre .1 _)))
     free
-    (λ c κs. rw (c .before .before .before .before .before .number-at .ensures) (c .before .before .before .before .before .before .before .before .before .before .before .before .before .pre .1 _))
     (λ c. search needs)
     (λ c. omega arith)
     (λ c. omega arith)

@@ -11,30 +11,29 @@ use Rattle.table_column_set.proofs.data_managers.read_managers.Statemen
 use Rattle.table_column_set.proofs.data_managers.read_managers.Tie as tie
 
 abbrev Inv-loop : tie.InvT-loop
-Inv-loop s n highest managers₀ numbers₀ ours₀ next₀ i₀ managers numbers ours next i =
-    (i ≤ n) × (_≡_ {A = Managers} (record { managers = managers; numbers = numbers; ours = ours; next = next }) (after (managerInto s highest) (record { managers = managers₀; numbers = numbers₀; ours = ours₀; next = next₀ }) i))
+Inv-loop s n highest managers₀ numbers₀ next₀ i₀ managers numbers next i =
+    (i ≤ n) × (_≡_ {A = Managers} (record { managers = managers; numbers = numbers; next = next }) (after (managerInto s highest) (record { managers = managers₀; numbers = numbers₀; next = next₀ }) i))
 
 abbrev μ-loop : tie.MeasureT-loop
-μ-loop s n highest managers₀ numbers₀ ours₀ next₀ i₀ managers numbers ours next i = n - i
+μ-loop s n highest managers₀ numbers₀ next₀ i₀ managers numbers next i = n - i
 
 -- the place that a turn fills
 inside : tie.Need-array-set-from-managers Inv-loop μ-loop
-inside c = omega (arith, c .before .before .before .before .before .before .before .before .before .before .before .loop-test .taken, c .before .before .before .before .before .before .before .before .before .before .before .before .before .before .before .pre)
+inside c = omega (arith, c .before .before .before .before .before .before .before .before .before .before .loop-test .taken, c .before .before .before .before .before .before .before .before .before .before .before .before .before .before .pre)
 
 loop-again : tie.Need-loop-again Inv-loop μ-loop
 unfolding managerInto
 loop-again c = (
   omega arith,
-  after-more _ _ _ (c .before .before .before .before .before .before .before .before .before .before .before .before .loop .inv .1) (
-      via _ (c .before .before .before .before .before .before .before .before .before .before .string .ensures .0) (
-      via _ (c .before .before .before .before .before .before .before .before .before .uint .ensures .0) (
-      via _ (c .before .before .before .before .before .before .before .first-number .ensures .0) (
-      via _ (c .before .before .before .before .before .before .is-new .ensures) (
-      via _ (c .before .before .before .before .before .judge .ensures) (
-      via _ (c .before .before .before .before .part .ensures) (
-      via _ (c .before .before .before .kind-of .ensures) (
-      via _ (c .before .before .is-ours .ensures) (
-      refl))))))))),
+  after-more _ _ _ (c .before .before .before .before .before .before .before .before .before .before .before .loop .inv .1) (
+      via _ (c .before .before .before .before .before .before .before .before .before .string .ensures .0) (
+      via _ (c .before .before .before .before .before .before .before .before .uint .ensures .0) (
+      via _ (c .before .before .before .before .before .before .first-number .ensures .0) (
+      via _ (c .before .before .before .before .before .is-new .ensures) (
+      via _ (c .before .before .before .before .judge .ensures) (
+      via _ (c .before .before .before .part .ensures) (
+      via _ (c .before .before .kind-of .ensures) (
+      refl)))))))),
 )
 
 returns : tie.Need-returns Inv-loop μ-loop
@@ -55,13 +54,11 @@ read-managers-spec =
     free
     free
     free
-    free
-    (λ c. omega (arith, c .before .before .before .before .before .before .before .before .uint .ensures .1))
-    (λ c. omega (arith, c .before .before .before .before .before .before .before .before .before .before .string .ensures .1))
+    (λ c. omega (arith, c .before .before .before .before .before .before .before .uint .ensures .1))
+    (λ c. omega (arith, c .before .before .before .before .before .before .before .before .before .string .ensures .1))
     (λ c. omega (arith, inside c))
     inside
     (λ c. omega (arith, inside c))
-    inside
     inside
     (λ c. omega (arith, inside c))
     (λ c. omega arith)
