@@ -43,14 +43,14 @@ expect() {
     says "$message"
 }
 
-expect 0 "no difference" --min 12000 --each 1..8 --bytes table tables 1 12000 , large 1 20 , bad -- "$model"
-expect 0 "no difference" --min 3000 prefixes -- "$model"
-expect 0 "no difference" --min 6000 --each 1..7 --bytes table,file,text fields -- "$model"
-expect 0 "no difference" --min 6000 torn -- "$model"
+expect 0 "no difference" --min 12000 --each 1..8 --bytes table,info tables 1 12000 , large 1 20 , bad -- "$model"
+expect 0 "no difference" --min 14000 prefixes -- "$model"
+expect 0 "no difference" --min 8000 --each 1..7 --bytes table,file,text,little-file,little-text fields -- "$model"
+expect 0 "no difference" --min 9000 torn -- "$model"
 expect 0 "no difference" --min 108000 types , types 1 1000 -- "$model"
-expect 0 "no difference" --min 10000 --each 1..14 --bytes file,text standard 1 10000 -- "$model"
-expect 0 "no difference" --min 10000 --each 1..12 --bytes file incremental 1 10000 -- "$model"
-expect 0 "no difference" --min 5000 --each 1..14 small-file -- "$model"
+expect 0 "no difference" --min 10000 --each 1..14 --bytes file,text,little-file,little-text standard 1 10000 -- "$model"
+expect 0 "no difference" --min 10000 --each 1..12 --bytes file,little-file incremental 1 10000 -- "$model"
+expect 0 "no difference" --min 10000 --each 1..14 small-file -- "$model"
 expect 0 "no difference" --min 15000 looks -- "$model"
 expect 0 "no difference" --min 10 files-large 1 10 -- "$model"
 
@@ -68,6 +68,10 @@ expect 1 "difference at request" bad -- sh -c "sed 's/+//' | '$model'"
 # A room that is not cleared, or not filled.
 expect 1 "difference at request" standard 1 1000 -- sh -c "'$model' | sed 's/^refused 9 0 00/refused 9 0 a5/'"
 expect 1 "difference at request" small-file -- sh -c "'$model' | sed 's/^ok SSM be/ok SSM 00/'"
+# A header of the other byte order by its Bool; a DMInfo of few bytes as an object, and the other way round.
+expect 1 "difference at request" standard 1 1000 -- sh -c "'$model' | sed 's/^refused 1 8 /refused 6 29 /'"
+expect 1 "difference at request" prefixes -- sh -c "'$model' | sed 's/^refused 7 906$/refused 1 914/'"
+expect 1 "difference at request" prefixes -- sh -c "'$model' | sed 's/^refused 1 914$/refused 7 906/'"
 # LOOKS: one more, one less than the most, 1 for a single entry, not there, in a view, after a refusal, in IncrementalStMan.
 placed='^(ok [0-9]+ [0-9]+)'
 for change in "s/$placed 2 /\\1 3 /" "s/$placed 12 /\\1 11 /" "s/$placed 0 be/\\1 1 be/" "s/$placed [0-9]+ /\\1 /" \

@@ -202,6 +202,7 @@ fn main() {
     element_bits("32 numbers from 0", 32, 10_000);
     title("Description of");
     description("the small table", &read("samples/small/table.dat"), 2_000);
+    description("the little endian small table", &read("samples/little/table.dat"), 2_000);
     description("the table with arrays", &read("samples/arrays/table.dat"), 500);
     let large = large_table();
     description("a table of 64 columns", &large, 100);
@@ -209,9 +210,10 @@ fn main() {
     column("the small table", &read("samples/small/table.dat"), 2_000);
     column("a table of 64 columns", &large, 100);
 
-    let small = writer::samples::small_file();
+    let (small, little) = (writer::samples::small_file(), writer::samples::little_file());
     let files = [
         Files::new("the small file", &small, 2, 1_000),
+        Files::new("the little endian small file", &little, 2, 1_000),
         Files::new("64 columns, 16 sets, 2,000 entries in an index chain", &many_sets(), 63, 20),
         Files::new("6 columns, 1 set, 1,349 buckets of 32,768 bytes", &large_buckets(), 5, 20),
         Files::new("Incremental: 10 columns, 1 bucket of 32,768 bytes", &incremental(1), 5, 200),
@@ -311,7 +313,7 @@ fn incremental(buckets: u32) -> Subject<IncrementalFile> {
     };
     let first_rows = (0..=buckets).map(|bucket| bucket * ROWS).collect();
     let layout = Buckets::new("IncrementalStMan", 5, 1, 32_768, buckets);
-    let file = IncrementalFile::new(layout, true, first_rows, (0..buckets).map(bucket).collect());
+    let file = IncrementalFile::new(layout, first_rows, (0..buckets).map(bucket).collect());
     let table = lean::bare(buckets * ROWS, 1, columns, vec![Manager::new("IncrementalStMan", 0)]);
     Subject { table, number: 0, file }
 }

@@ -30,14 +30,16 @@ pub fn usage() -> String {
 Gives the sets' request lines to COMMAND, one a line, and compares its answers,
 one a line, with the model's. Prints how often each question was accepted and
 refused with each number, and how often each number had a byte above 0, in
-table.dat, in a manager's file or in index text. Fails at the first difference,
-and also if COMMAND gives too few or too many answers or ends with an error.
+table.dat, in the object of a DMInfo, in a manager's file or in index text; in
+the last two apart for little endian tables. Fails at the first difference, and
+also if COMMAND gives too few or too many answers or ends with an error.
 
   --min TOTAL      fail if there are fewer requests
   --each FROM..TO  fail if one of these refusal numbers does not occur
   --bytes PART[,PART]..
                    fail if a refusal number does not occur with a byte above 0
-                   in this part, though it can: table, file or text
+                   in this part, though it can: table, info, file, text,
+                   little-file or little-text
   --save FILE      where to put the request with the first difference;
                    target/tests/difference.txt if not given
   --replay FILE    ask the request lines of this file, before the sets
@@ -123,8 +125,8 @@ mod tests {
     #[test]
     fn parts_of_bytes() {
         assert_eq!(parse("--bytes table bad -- cat").unwrap().bytes, [Part::Table]);
-        let options = parse("--bytes text,file bad -- cat").unwrap();
-        assert_eq!(options.bytes, [Part::Text, Part::File]);
+        let options = parse("--bytes text,little-file,info bad -- cat").unwrap();
+        assert_eq!(options.bytes, [Part::Text, Part::LittleFile, Part::Info]);
     }
 
     #[test]

@@ -32,7 +32,7 @@ impl Tally {
         let [number, byte] = refusal(question, answer);
         counts[number] += 1;
         if byte > 0 {
-            self.bytes.entry(Part::of(request)).or_insert([0; NUMBERS])[number] += 1;
+            self.bytes.entry(Part::of(request, byte)).or_insert([0; NUMBERS])[number] += 1;
         }
     }
 
@@ -122,7 +122,7 @@ fn line(
     accepted: impl fmt::Display,
     refused: &[impl fmt::Display],
 ) -> fmt::Result {
-    write!(out, "{name:13}{accepted:>9}")?;
+    write!(out, "{name:19}{accepted:>8}")?;
     for count in refused {
         write!(out, "{count:>8}")?;
     }
@@ -133,7 +133,8 @@ fn line(
 mod tests {
     use super::*;
     use model::hex;
-    use writer::buckets::BucketFile;
+    use writer::buckets::{BucketFile, Subject};
+    use writer::standard::StandardFile;
 
     #[test]
     fn answers_are_counted() {
@@ -150,13 +151,19 @@ mod tests {
         assert!(tally.check(7, 1..=1, &[]).is_ok());
         assert!(tally.check(8, 1..=1, &[]).is_err());
         assert!(tally.check(7, 1..=2, &[]).is_err());
-        assert!(tally.to_string().contains("\nelementbits          1 "));
+        assert!(tally.to_string().contains("\nelementbits               1 "));
     }
 
-    /// The answer of the model to a question about a sample's table and a
-    /// change of its file.
+    /// The answer of the model to a question about a sample after a change.
     fn add_check(tally: &mut Tally, change: impl FnOnce(&mut Vec<u8>, &mut Vec<u8>)) {
-        let subject = writer::samples::small_file();
+        add_sample(tally, writer::samples::small_file(), change);
+    }
+
+    fn add_sample(
+        tally: &mut Tally,
+        subject: Subject<StandardFile>,
+        change: impl FnOnce(&mut Vec<u8>, &mut Vec<u8>),
+    ) {
         let (mut table, mut file) = (subject.table.encode(), subject.file.encode());
         change(&mut table, &mut file);
         let request = format!("check {} 0 {} 200", hex::encode(&table), hex::encode(&file));
@@ -175,11 +182,38 @@ mod tests {
         add_check(&mut tally, |_, file| file[69] = 135);
         add_check(&mut tally, |_, file| file[53] = 2); // a chain has no byte
         assert_eq!([0, 1, 3, 7, 10].map(|number| tally.occurrences(number)), [1, 3, 1, 1, 1]);
-        let with_byte = |number| Part::ALL.map(|part| tally.with_byte(part, number));
+        let parts = [Part::Table, Part::File, Part::Text];
+        let with_byte = |number| parts.map(|part| tally.with_byte(part, number));
         assert_eq!([1, 3, 7, 10].map(with_byte), [[0, 1, 1], [1, 0, 0], [0, 0, 1], [0; 3]]);
         assert!(tally.check(7, 1..=1, &[]).is_ok());
         let missing = tally.check(7, 1..=1, &[Part::Text]).unwrap_err();
         assert!(missing.ends_with("a byte of the text: 2, 3, 4, 6"), "{missing}");
-        assert!(tally.to_string().contains("\nbyte of text                 1       0 "));
+        assert!(tally.to_string().contains("\nbyte of text                      1       0 "));
+    }
+
+    #[test]
+    fn bytes_of_a_little_endian_table_are_counted() {
+        let mut tally = Tally::default();
+        let mut add = |change: fn(&mut Vec<u8>, &mut Vec<u8>)| {
+            add_sample(&mut tally, writer::samples::little_file(), change);
+        };
+        add(|_, _| ());
+        add(|table, _| table[20] = 9); // Table's version
+        add(|table, _| table[909] = 103); // the length of DMInfo
+        add(|table, _| table[913] = 0); // the mark in it
+        add(|table, _| table[928] = 3); // the version of its object
+        add(|table, _| table[966] = 2); // the count of offsets
+        add(|_, file| file[25] = 2); // the header's version
+        add(|_, file| file[66] = 135); // the index length
+        let with_byte = |part| [1, 3, 6, 7].map(|number| tally.with_byte(part, number));
+        let expected = [
+            [1, 1, 0, 1], // table
+            [0, 1, 1, 0], // info
+            [0; 4],
+            [0; 4],
+            [0, 1, 0, 0], // little-file
+            [0, 0, 0, 1], // little-text
+        ];
+        assert_eq!(Part::ALL.map(with_byte), expected);
     }
 }

@@ -1,8 +1,10 @@
 //! Reading AipsIO: RULES.md 3, and Note 260, section 2.
 //!
 //! Each function reads one field and refuses with that field's lowest number,
-//! at the byte at which the field begins.
+//! at the byte at which the field begins. The reader alone knows the byte order
+//! of the numbers that it reads.
 
+use crate::byte_order::{ByteOrder, Numbers};
 use crate::refusal::{
     DISAGREES, DOES_NOT_FIT, ENDS_EARLY, OUT_OF_RANGE, Refusal, WRONG_LENGTH, WRONG_NAME,
     WRONG_VERSION,
@@ -12,8 +14,8 @@ use std::ops::RangeInclusive;
 /// The longest string that is not a column name.
 const MAX_STRING: usize = 4096;
 
-/// Numbers of 4 bytes, as they are stored.
-pub type Numbers<'a> = &'a [[u8; 4]];
+/// The mark before an outermost object, alike in both byte orders.
+const MARK: [u8; 4] = [0xBE; 4];
 
 /// Reads the fields of a file, or of an object in it.
 ///
@@ -27,12 +29,13 @@ pub struct Reader<'a> {
     at: usize,
     /// Where the header begins of the object that is read, if one is.
     header: usize,
+    order: ByteOrder,
 }
 
 impl<'a> Reader<'a> {
-    /// Reads these bytes from a place on.
-    pub fn new(bytes: &'a [u8], at: usize) -> Self {
-        Self { rest: &bytes[at..], at, header: at }
+    /// Reads these bytes from a place on, their numbers in this order.
+    pub fn new(bytes: &'a [u8], at: usize, order: ByteOrder) -> Self {
+        Self { rest: &bytes[at..], at, header: at, order }
     }
 
     /// Where the next field begins.
@@ -104,7 +107,8 @@ impl<'a> Reader<'a> {
 
     #[inline]
     pub fn uint(&mut self) -> Result<u32, Refusal> {
-        Ok(u32::from_be_bytes(self.array()?))
+        let stored = self.array()?;
+        Ok(self.order.uint(stored))
     }
 
     #[inline]
@@ -123,11 +127,17 @@ impl<'a> Reader<'a> {
     }
 
     pub fn int(&mut self) -> Result<i32, Refusal> {
-        Ok(i32::from_be_bytes(self.array()?))
+        Ok(self.uint()? as i32)
     }
 
     pub fn int64(&mut self) -> Result<i64, Refusal> {
-        Ok(i64::from_be_bytes(self.array()?))
+        let stored = self.array()?;
+        Ok(self.order.int64(stored))
+    }
+
+    /// So many uInts; the first that does not fit is blamed.
+    pub fn numbers(&mut self, count: usize) -> Result<Numbers<'a>, Refusal> {
+        Ok(Numbers::new(self.run(count, 4)?, self.order))
     }
 
     pub fn bool(&mut self) -> Result<bool, Refusal> {
@@ -139,12 +149,25 @@ impl<'a> Reader<'a> {
     }
 
     /// A uInt length and that many bytes, as one field: a String without its
-    /// range, or a DMInfo.
+    /// range.
     #[inline]
     pub fn counted(&mut self) -> Result<&'a [u8], Refusal> {
         let field = self.at;
         let length = self.uint()?;
         self.take(length as usize, field)
+    }
+
+    /// The same as a container of its own, a DMInfo: bytes that are left over
+    /// in it blame its length.
+    pub fn part(&mut self) -> Result<Reader<'a>, Refusal> {
+        let header = self.at;
+        let rest = self.counted()?;
+        Ok(Reader { rest, at: header + 4, header, order: self.order })
+    }
+
+    /// The bytes up to the container's end.
+    pub fn left(&self) -> usize {
+        self.rest.len()
     }
 
     /// A String of 0 to 4,096 bytes.
@@ -169,9 +192,12 @@ impl<'a> Reader<'a> {
         self.version(&[expected]).map(drop)
     }
 
-    /// The mark before an outermost object.
     pub fn expect_mark(&mut self) -> Result<(), Refusal> {
-        self.judged(Self::array, WRONG_NAME, |mark| *mark == [0xBE; 4]).map(drop)
+        self.judged(Self::array, WRONG_NAME, |mark| *mark == MARK).map(drop)
+    }
+
+    pub fn begins_with_mark(&self) -> bool {
+        self.rest.starts_with(&MARK)
     }
 
     /// An object's header, read against its container: length, name, version,
@@ -187,7 +213,7 @@ impl<'a> Reader<'a> {
         let (object, rest) =
             container.split_at_checked(length).ok_or(Refusal::at(ENDS_EARLY, header))?;
         let fields = object.get(self.at - header..).ok_or(Refusal::at(WRONG_LENGTH, header))?;
-        let fields = Reader { rest: fields, at: self.at, header };
+        let fields = Reader { rest: fields, at: self.at, header, order: self.order };
         self.rest = rest;
         self.at = header + length;
         Ok((version, fields))
@@ -198,9 +224,9 @@ impl<'a> Reader<'a> {
     pub fn block(&mut self, count: u64) -> Result<Numbers<'a>, Refusal> {
         let (_, mut fields) = self.object(b"Block", &[1])?;
         let stated = fields.judged(Self::uint, DISAGREES, |stated| u64::from(*stated) == count)?;
-        let numbers = fields.run(stated as usize, 4)?;
+        let numbers = fields.numbers(stated as usize)?;
         fields.finish()?;
-        Ok(numbers.as_chunks().0)
+        Ok(numbers)
     }
 
     /// A TableRecord is passed over by its length.
@@ -209,7 +235,8 @@ impl<'a> Reader<'a> {
         Ok(())
     }
 
-    /// After an object's last field: bytes that are left over blame its header.
+    /// After the last field of an object or a part: bytes that are left over
+    /// blame its header.
     pub fn finish(self) -> Result<(), Refusal> {
         self.none_left(self.header)
     }
@@ -218,6 +245,11 @@ impl<'a> Reader<'a> {
     /// themselves.
     pub fn finish_text(self) -> Result<(), Refusal> {
         self.none_left(self.at)
+    }
+
+    /// Blames the header of the object or part.
+    pub fn wrong_length(&self) -> Refusal {
+        Refusal::at(WRONG_LENGTH, self.header)
     }
 
     fn none_left(&self, blamed: usize) -> Result<(), Refusal> {

@@ -3,6 +3,7 @@
 //! (RULES.md 5 and 6; Note 260, sections 3.4.2 and 3.4.3).
 
 use crate::aipsio::Reader;
+use crate::byte_order::ByteOrder;
 use crate::refusal::{DISAGREES, ENDS_EARLY, Refusal, WRONG_CHAIN, WRONG_MAP};
 use std::ops::RangeInclusive;
 
@@ -23,17 +24,18 @@ pub struct HeaderStart {
     pub bucket_count: u32,
 }
 
-/// The header object of a file: a reader of its fields after the first four.
+/// The header object of a file, in the table's byte order: a reader of its
+/// fields after the first four.
 pub fn header<'a>(
     file: &'a [u8],
     name: &[u8],
     version: u32,
-    big_endian: bool,
+    order: ByteOrder,
 ) -> Result<(HeaderStart, Reader<'a>), Refusal> {
-    let mut container = Reader::new(file.get(..HEADER_ROOM).unwrap_or(file), 0);
+    let mut container = Reader::new(file.get(..HEADER_ROOM).unwrap_or(file), 0, order);
     container.expect_mark()?;
     let (_, mut fields) = container.object(name, &[version])?;
-    fields.judged(Reader::bool, DISAGREES, |is_big| *is_big == big_endian)?;
+    fields.judged(Reader::bool, DISAGREES, |is_big| ByteOrder::of(*is_big) == order)?;
     let bucket_size = fields.uint_within(BUCKET_SIZE)?;
     let bucket_count = fields.uint_up_to(MAX_BUCKETS)?;
     fields.uint()?; // cache size
@@ -46,17 +48,19 @@ pub struct Buckets<'a> {
     file: &'a [u8],
     size: usize,
     count: usize,
+    /// The table's.
+    order: ByteOrder,
 }
 
 impl<'a> Buckets<'a> {
     /// A file that is too short for them is blamed at its end.
-    pub fn new(file: &'a [u8], start: HeaderStart) -> Result<Self, Refusal> {
+    pub fn new(file: &'a [u8], start: HeaderStart, order: ByteOrder) -> Result<Self, Refusal> {
         let size = start.bucket_size as usize;
         let count = start.bucket_count as usize;
         if file.len() < HEADER_ROOM + count * size {
             return Err(Refusal::at(ENDS_EARLY, file.len()));
         }
-        Ok(Self { file, size, count })
+        Ok(Self { file, size, count, order })
     }
 
     pub fn size(&self) -> usize {
@@ -72,13 +76,23 @@ impl<'a> Buckets<'a> {
         &self.file[self.start(bucket)..][..self.size]
     }
 
+    /// A reader of a bucket, in the table's byte order.
     pub fn reader(&self, bucket: usize) -> Reader<'a> {
-        Reader::new(&self.file[..self.start(bucket + 1)], self.start(bucket))
+        self.reader_in(self.order, bucket)
     }
 
-    /// A reader of the bytes after the last bucket.
+    /// A reader of a bucket's links, which are big endian in every table.
+    pub fn links(&self, bucket: usize) -> Reader<'a> {
+        self.reader_in(ByteOrder::Big, bucket)
+    }
+
+    fn reader_in(&self, order: ByteOrder, bucket: usize) -> Reader<'a> {
+        Reader::new(&self.file[..self.start(bucket + 1)], self.start(bucket), order)
+    }
+
+    /// A reader of the bytes after the last bucket, in the table's byte order.
     pub fn after(&self) -> Reader<'a> {
-        Reader::new(self.file, self.start(self.count))
+        Reader::new(self.file, self.start(self.count), self.order)
     }
 
     pub fn contain(&self, bucket: usize) -> bool {
@@ -119,7 +133,7 @@ impl<'a> Buckets<'a> {
         let mut free = BucketSet::default();
         self.follow(first, length, |bucket| {
             free.insert(bucket);
-            self.reader(bucket).int()
+            self.links(bucket).int()
         })?;
         Ok(free)
     }

@@ -1,8 +1,9 @@
 //! The files of IncrementalStMan: RULES.md 6, and Note 260,
 //! section 3.4.3.
 
-use crate::aipsio::{Numbers, Reader};
+use crate::aipsio::Reader;
 use crate::buckets::{BucketSet, Buckets, header};
+use crate::byte_order::Numbers;
 use crate::data_type::DataType;
 use crate::refusal::{Refusal, WRONG_MAP, WRONG_VERSION};
 use crate::table::{Column, Description};
@@ -14,7 +15,6 @@ const DATA_START: u32 = 4;
 #[derive(Clone, Copy, Debug)]
 pub struct IncrementalFile<'a> {
     buckets: Buckets<'a>,
-    big_endian: bool,
     /// Of each bucket in the index, and the row count.
     first_rows: Numbers<'a>,
     /// The buckets in the index.
@@ -28,19 +28,19 @@ impl<'a> IncrementalFile<'a> {
         manager: u32,
         file: &'a [u8],
     ) -> Result<Self, Refusal> {
-        let big_endian = description.big_endian;
-        let (start, mut fields) = header(file, b"IncrementalStMan", 5, big_endian)?;
+        let order = description.byte_order;
+        let (start, mut fields) = header(file, b"IncrementalStMan", 5, order)?;
         fields.uint()?; // unique column number
         let free_count = fields.uint()?;
         let first_free = fields.int()?;
         fields.finish()?;
-        let buckets = Buckets::new(file, start)?;
+        let buckets = Buckets::new(file, start, order)?;
         let (first_rows, numbers) = read_index(buckets.after())?;
         let free = buckets.free_list(first_free, free_count)?;
-        let file = Self { buckets, big_endian, first_rows, numbers };
+        let file = Self { buckets, first_rows, numbers };
         file.check_index(free, description.rows)?;
         let sizes: Vec<u32> = description.columns_of(manager).map(judged_size).collect();
-        for entry in 0..numbers.len() {
+        for entry in 0..numbers.count() {
             file.check_bucket(entry, &sizes)?;
         }
         Ok(file)
@@ -49,14 +49,12 @@ impl<'a> IncrementalFile<'a> {
     /// Bucket numbers are in range, all different and none is free; first rows
     /// rise from 0 to the row count.
     fn check_index(&self, mut claimed: BucketSet, rows: u32) -> Result<(), Refusal> {
-        for number in self.numbers {
-            self.buckets.claim(&mut claimed, u32::from_be_bytes(*number))?;
+        for number in self.numbers.iter() {
+            self.buckets.claim(&mut claimed, number)?;
         }
-        // Big endian numbers compare as their bytes do.
-        let ends = (self.first_rows.first(), self.first_rows.last());
-        if ends != (Some(&[0; 4]), Some(&rows.to_be_bytes()))
-            || !self.first_rows.is_sorted_by(|row, next| row < next)
-        {
+        // There is one first row more than buckets.
+        let ends = (self.first_row(0), self.first_row(self.numbers.count()));
+        if ends != (0, rows) || !self.first_rows.iter().is_sorted_by(|row, next| row < next) {
             return Err(WRONG_MAP);
         }
         Ok(())
@@ -71,26 +69,25 @@ impl<'a> IncrementalFile<'a> {
         }
         let rows = self.first_row(entry + 1) - self.first_row(entry);
         for size in sizes {
-            index.check_values(rows, *size, offset - DATA_START)?;
+            check_values(&mut index, rows, *size, offset - DATA_START)?;
         }
         Ok(())
     }
 
     /// The bucket of an entry of the index: the offset of its own index, and
     /// what stands from there on.
-    fn bucket(&self, entry: usize) -> Result<(u32, BucketReader<'a>), Refusal> {
-        let bucket = self.buckets.reader(u32::from_be_bytes(self.numbers[entry]) as usize);
-        let reader = |fields| BucketReader { fields, big_endian: self.big_endian };
-        let offset = reader(bucket.clone()).uint()?;
+    fn bucket(&self, entry: usize) -> Result<(u32, Reader<'a>), Refusal> {
+        let bucket = self.buckets.reader(self.numbers.at(entry) as usize);
+        let offset = bucket.clone().uint()?;
         if offset >> 24 != 0 {
             return Err(Refusal::at(WRONG_VERSION, bucket.at())); // row numbers of 64 bits
         }
         let index = bucket.after(offset as usize).ok_or(WRONG_MAP)?;
-        Ok((offset, reader(index)))
+        Ok((offset, index))
     }
 
     fn first_row(&self, entry: usize) -> u32 {
-        u32::from_be_bytes(self.first_rows[entry])
+        self.first_rows.at(entry)
     }
 
     pub fn bucket_size(&self) -> usize {
@@ -101,10 +98,10 @@ impl<'a> IncrementalFile<'a> {
     /// is the manager's column number `column`.
     pub fn first_bit(&self, column: usize, row: u32) -> u64 {
         // The last bucket whose first row is not above the row.
-        let entry = self.first_rows.partition_point(|first| *first <= row.to_be_bytes()) - 1;
+        let entry = self.first_rows.partition_point(|first| first <= row) - 1;
         let local_row = row - self.first_row(entry);
         let offset = self.value_offset(entry, column, local_row).expect("the bucket was checked");
-        let bucket = u32::from_be_bytes(self.numbers[entry]) as usize;
+        let bucket = self.numbers.at(entry) as usize;
         8 * (self.buckets.start(bucket) as u64 + u64::from(DATA_START) + u64::from(offset))
     }
 
@@ -112,11 +109,11 @@ impl<'a> IncrementalFile<'a> {
     fn value_offset(&self, entry: usize, column: usize, local_row: u32) -> Result<u32, Refusal> {
         let (_, mut index) = self.bucket(entry)?;
         for _ in 0..column {
-            index.values()?;
+            values(&mut index)?;
         }
-        let (starts, offsets) = index.values()?;
-        let value = starts.partition_point(|start| index.number(*start) <= local_row) - 1;
-        Ok(index.number(offsets[value]))
+        let (starts, offsets) = values(&mut index)?;
+        let value = starts.partition_point(|start| start <= local_row) - 1;
+        Ok(offsets.at(value))
     }
 }
 
@@ -140,49 +137,32 @@ fn read_index(mut container: Reader<'_>) -> Result<(Numbers<'_>, Numbers<'_>), R
     Ok((first_rows, numbers))
 }
 
-/// Reads numbers of a bucket, in the table's endianness.
-struct BucketReader<'a> {
-    fields: Reader<'a>,
-    big_endian: bool,
-}
-
-impl<'a> BucketReader<'a> {
-    fn number(&self, bytes: [u8; 4]) -> u32 {
-        if self.big_endian { u32::from_be_bytes(bytes) } else { u32::from_le_bytes(bytes) }
+/// A column's values in a bucket's index: the first row of each rises from 0
+/// and is below `rows`; each stands, with `size` bytes, in `data` bytes.
+fn check_values(index: &mut Reader<'_>, rows: u32, size: u32, data: u32) -> Result<(), Refusal> {
+    let count = index.uint()?;
+    if count == 0 {
+        return Err(WRONG_MAP);
     }
-
-    fn uint(&mut self) -> Result<u32, Refusal> {
-        let bytes = self.fields.array()?;
-        Ok(self.number(bytes))
-    }
-
-    /// A column's values: the first row of each rises from 0 and is below
-    /// `rows`; each stands, with `size` bytes, in `data` bytes.
-    fn check_values(&mut self, rows: u32, size: u32, data: u32) -> Result<(), Refusal> {
-        let count = self.uint()?;
-        if count == 0 {
+    let mut least = 0;
+    for value in 0..count {
+        let start = index.uint()?;
+        if start < least || start >= rows || (value == 0 && start > 0) {
             return Err(WRONG_MAP);
         }
-        let mut least = 0;
-        for value in 0..count {
-            let start = self.uint()?;
-            if start < least || start >= rows || (value == 0 && start > 0) {
-                return Err(WRONG_MAP);
-            }
-            least = start + 1;
-        }
-        for _ in 0..count {
-            let offset = self.uint()?;
-            if u64::from(offset) + u64::from(size) > u64::from(data) {
-                return Err(WRONG_MAP);
-            }
-        }
-        Ok(())
+        least = start + 1;
     }
+    for _ in 0..count {
+        let offset = index.uint()?;
+        if u64::from(offset) + u64::from(size) > u64::from(data) {
+            return Err(WRONG_MAP);
+        }
+    }
+    Ok(())
+}
 
-    /// A column's values: their first rows and their offsets.
-    fn values(&mut self) -> Result<(Numbers<'a>, Numbers<'a>), Refusal> {
-        let count = self.uint()? as usize;
-        Ok(self.fields.run(2 * count, 4)?.as_chunks().0.split_at(count))
-    }
+/// A column's values: their first rows and their offsets.
+fn values<'a>(index: &mut Reader<'a>) -> Result<(Numbers<'a>, Numbers<'a>), Refusal> {
+    let count = index.uint()? as usize;
+    Ok((index.numbers(count)?, index.numbers(count)?))
 }

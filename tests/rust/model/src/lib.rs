@@ -8,6 +8,7 @@
 
 pub mod aipsio;
 mod buckets;
+pub mod byte_order;
 pub mod data_type;
 pub mod element_bits;
 pub mod hex;
@@ -21,6 +22,7 @@ pub mod request;
 mod standard;
 pub mod table;
 
+pub use byte_order::ByteOrder;
 pub use data_type::DataType;
 pub use element_bits::element_bits;
 pub use listing::listing;

@@ -23,7 +23,7 @@ pub fn description(table: &[u8]) -> Result<[u64; 5], Refusal> {
     let description = describe(table)?;
     Ok([
         description.rows.into(),
-        description.big_endian.into(),
+        description.byte_order.is_big().into(),
         description.columns.len() as u64,
         description.managers.len() as u64,
         NO_BYTE,

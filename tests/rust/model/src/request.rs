@@ -137,7 +137,12 @@ fn describe_line(answer: Result<Description<'_>, Refusal>) -> String {
 }
 
 fn write_description(line: &mut String, description: &Description<'_>) -> std::fmt::Result {
-    write!(line, "ok rows={} be={} cols=[", description.rows, u8::from(description.big_endian))?;
+    write!(
+        line,
+        "ok rows={} be={} cols=[",
+        description.rows,
+        u8::from(description.byte_order.is_big())
+    )?;
     for (position, column) in description.columns.iter().enumerate() {
         if position > 0 {
             line.push(';');

@@ -1,8 +1,9 @@
 //! The files of StandardStMan: RULES.md 5, and Note 260,
 //! section 3.4.2.
 
-use crate::aipsio::{Numbers, Reader};
+use crate::aipsio::Reader;
 use crate::buckets::{BucketSet, Buckets, HeaderStart, header};
+use crate::byte_order::{ByteOrder, Numbers};
 use crate::looks;
 use crate::refusal::{OUT_OF_RANGE, Refusal, SHORT_ROOM, WRONG_CHAIN, WRONG_MAP};
 use crate::table::{Column, Description};
@@ -40,7 +41,7 @@ struct Index<'a> {
 impl Index<'_> {
     /// The first entry whose last row is not below the row.
     fn entry(&self, row: u32) -> usize {
-        self.last_rows.partition_point(|last| u32::from_be_bytes(*last) < row)
+        self.last_rows.partition_point(|last| last < row)
     }
 }
 
@@ -61,12 +62,13 @@ impl<'a> StandardFile<'a> {
         file: &'a [u8],
         room: &'a mut [u8],
     ) -> Result<Self, Refusal> {
-        let header = read_header(file, description.big_endian)?;
-        let buckets = Buckets::new(file, header.start)?;
+        let order = description.byte_order;
+        let header = read_header(file, order)?;
+        let buckets = Buckets::new(file, header.start, order)?;
         let (text, rest) = room.split_at_mut_checked(header.index_length).ok_or(SHORT_ROOM)?;
         let index_buckets = read_text(&buckets, &header, text)?;
         rest.fill(0);
-        let indices = read_indices(text, header.indices)?;
+        let indices = read_indices(text, header.indices, order)?;
         let free = buckets.free_list(header.first_free, header.free_count)?;
         let file = Self { buckets, indices };
         file.check_buckets(index_buckets, &free)?;
@@ -81,8 +83,8 @@ impl<'a> StandardFile<'a> {
             return Err(WRONG_MAP);
         }
         claimed.extend(free);
-        for number in self.indices.iter().flat_map(|index| index.buckets) {
-            self.buckets.claim(&mut claimed, u32::from_be_bytes(*number))?;
+        for number in self.indices.iter().flat_map(|index| index.buckets.iter()) {
+            self.buckets.claim(&mut claimed, number)?;
         }
         Ok(())
     }
@@ -92,8 +94,8 @@ impl<'a> StandardFile<'a> {
     fn check_rows(&self, rows: u32) -> Result<(), Refusal> {
         for index in &self.indices {
             let mut row = 0; // the next entry's first row
-            for last in index.last_rows {
-                let next = u64::from(u32::from_be_bytes(*last)) + 1;
+            for last in index.last_rows.iter() {
+                let next = u64::from(last) + 1;
                 if next <= row || next - row > index.rows_per_bucket.into() {
                     return Err(WRONG_MAP);
                 }
@@ -143,15 +145,14 @@ impl<'a> StandardFile<'a> {
 
     /// How many entries a set has.
     pub fn entries(&self, set: u32) -> u64 {
-        self.indices[set as usize].last_rows.len() as u64
+        self.indices[set as usize].last_rows.count() as u64
     }
 
     /// How many last rows of a set the search for a row looks at; the row is
     /// one of the table's.
     pub fn looks(&self, set: u32, row: u32) -> u64 {
         let index = self.indices[set as usize];
-        let last_row = |entry: usize| u32::from_be_bytes(index.last_rows[entry]);
-        let search = looks::search(index.last_rows.len(), last_row, row);
+        let search = looks::search(index.last_rows.count(), |entry| index.last_rows.at(entry), row);
         debug_assert_eq!(search.entry, index.entry(row));
         search.looks
     }
@@ -161,17 +162,17 @@ impl<'a> StandardFile<'a> {
         let index = self.indices[column.set as usize];
         let entry = index.entry(row);
         let first_row = match entry.checked_sub(1) {
-            Some(before) => u32::from_be_bytes(index.last_rows[before]) + 1,
+            Some(before) => index.last_rows.at(before) + 1,
             None => 0,
         };
-        let bucket = u32::from_be_bytes(index.buckets[entry]) as usize;
+        let bucket = index.buckets.at(entry) as usize;
         let extent = self.buckets.start(bucket) as u64 + u64::from(column.offset);
         8 * extent + u64::from(row - first_row) * u64::from(column.cell_bits)
     }
 }
 
-fn read_header(file: &[u8], big_endian: bool) -> Result<Header, Refusal> {
-    let (start, mut fields) = header(file, b"StandardStMan", 3, big_endian)?;
+fn read_header(file: &[u8], order: ByteOrder) -> Result<Header, Refusal> {
+    let (start, mut fields) = header(file, b"StandardStMan", 3, order)?;
     let free_count = fields.uint()?;
     let first_free = fields.int()?;
     let index_buckets = fields.uint()?;
@@ -216,7 +217,7 @@ fn read_text(
     let mut missing = text;
     buckets.follow(header.first_index_bucket, header.index_buckets, |bucket| {
         index_buckets.insert(bucket);
-        let mut links = buckets.reader(bucket);
+        let mut links = buckets.links(bucket);
         let next = links.int()?;
         if links.int()? != next {
             return Err(WRONG_CHAIN);
@@ -234,9 +235,10 @@ fn read_text(
     Ok(index_buckets)
 }
 
-/// The index text: one SSMIndex for each set. Its bytes count from its start.
-fn read_indices(text: &[u8], count: usize) -> Result<Vec<Index<'_>>, Refusal> {
-    let mut text = Reader::new(text, 0);
+/// The index text: one SSMIndex for each set, in the table's byte order. Its
+/// bytes count from its start.
+fn read_indices(text: &[u8], count: usize, order: ByteOrder) -> Result<Vec<Index<'_>>, Refusal> {
+    let mut text = Reader::new(text, 0, order);
     let mut indices = Vec::with_capacity(count);
     for _ in 0..count {
         indices.push(read_index(&mut text)?);

@@ -2,10 +2,9 @@
 //! Note 260, section 3.1.
 
 use crate::aipsio::Reader;
+use crate::byte_order::{ByteOrder, Numbers};
 use crate::data_type::DataType;
-use crate::refusal::{
-    DISAGREES, DOES_NOT_FIT, NO_SUCH, OUT_OF_RANGE, Refusal, WRONG_LENGTH, WRONG_VERSION,
-};
+use crate::refusal::{DISAGREES, DOES_NOT_FIT, NO_SUCH, OUT_OF_RANGE, Refusal, WRONG_VERSION};
 use std::ops::RangeInclusive;
 
 // RULES.md 8.2, Ranges.
@@ -26,7 +25,8 @@ const FIXED_SHAPE: i32 = 4;
 #[derive(Clone, Debug, PartialEq, Eq)]
 pub struct Description<'a> {
     pub rows: u32,
-    pub big_endian: bool,
+    /// Of the cells, and of the headers and indices of the managers' files.
+    pub byte_order: ByteOrder,
     /// In stored order.
     pub columns: Vec<Column<'a>>,
     /// In stored order.
@@ -54,9 +54,10 @@ pub struct Column<'a> {
     pub cell_bits: u32,
     /// The sequence number of its manager.
     pub manager: u32,
-    /// From the DMInfo of StandardStMan and IncrementalStMan; 0 otherwise.
+    /// From the DMInfo of StandardStMan and IncrementalStMan, if it has set
+    /// numbers and offsets; 0 otherwise.
     pub set: u32,
-    /// From the DMInfo of StandardStMan and IncrementalStMan; 0 otherwise.
+    /// As the set.
     pub offset: u32,
 }
 
@@ -91,20 +92,20 @@ pub fn describe(table: &[u8]) -> Result<Description<'_>, Refusal> {
     if table.len() > MAX_FILE {
         return Err(Refusal::at(OUT_OF_RANGE, MAX_FILE));
     }
-    let mut file = Reader::new(table, 0);
+    let mut file = Reader::new(table, 0, ByteOrder::Big); // in every table
     file.expect_mark()?;
     let (_, mut fields) = file.object(b"Table", &[2])?;
     let rows = fields.uint_up_to(MAX_ROWS)?;
-    let big_endian = fields.meaning(Reader::uint, DOES_NOT_FIT, |number| match number {
-        0 => Some(false),
-        1 => Some(true),
+    let byte_order = fields.meaning(Reader::uint, DOES_NOT_FIT, |number| match number {
+        0 => Some(ByteOrder::Little),
+        1 => Some(ByteOrder::Big),
         _ => None,
     })?;
     fields.expect_name(b"PlainTable")?;
     let mut columns = table_desc(&mut fields)?;
     let managers = column_set(&mut fields, rows, &mut columns)?;
     fields.finish()?;
-    Ok(Description { rows, big_endian, columns, managers })
+    Ok(Description { rows, byte_order, columns, managers })
 }
 
 /// The position of the column with this name, from 0 in stored order.
@@ -302,24 +303,59 @@ fn column_info(
     Ok(())
 }
 
-/// DMInfo: for the two kinds, the set numbers of the columns bound to the
-/// manager, then their offsets. A wrong length blames its length field, with
-/// which it begins.
+/// DMInfo, of which other kinds' is not looked at: the columns bound to the
+/// manager get their set numbers and offsets.
 fn manager_info(
     fields: &mut Reader<'_>,
     manager: &Manager<'_>,
     columns: &mut [Column<'_>],
 ) -> Result<(), Refusal> {
-    if manager.kind == Kind::Other {
-        return fields.counted().map(drop);
-    }
+    let info = fields.part()?;
     let bound = columns.iter().filter(|column| column.manager == manager.number).count();
-    let info = fields.judged(Reader::counted, WRONG_LENGTH, |info| info.len() == 8 * bound)?;
-    let (sets, offsets) = info.as_chunks().0.split_at(bound);
+    let (sets, offsets) = match manager.kind {
+        Kind::Other => return Ok(()),
+        Kind::Standard if info.begins_with_mark() => ssm_info(info, bound)?,
+        Kind::Incremental if info.begins_with_mark() => return ism_info(info),
+        Kind::Standard | Kind::Incremental => bare_info(info, bound)?,
+    };
     let columns = columns.iter_mut().filter(|column| column.manager == manager.number);
-    for (column, (set, offset)) in columns.zip(sets.iter().zip(offsets)) {
-        column.set = u32::from_be_bytes(*set);
-        column.offset = u32::from_be_bytes(*offset);
+    for (column, (set, offset)) in columns.zip(sets.iter().zip(offsets.iter())) {
+        column.set = set;
+        column.offset = offset;
     }
     Ok(())
+}
+
+/// A DMInfo without the mark: the set numbers of the bound columns, then their
+/// offsets. A length other than theirs, shorter too, is blamed itself.
+fn bare_info<'a>(
+    mut info: Reader<'a>,
+    bound: usize,
+) -> Result<(Numbers<'a>, Numbers<'a>), Refusal> {
+    if info.left() != 8 * bound {
+        return Err(info.wrong_length());
+    }
+    Ok((info.numbers(bound)?, info.numbers(bound)?))
+}
+
+/// A DMInfo of StandardStMan with the mark: the manager's name, the offsets of
+/// the bound columns, then their set numbers, which it gives first.
+fn ssm_info<'a>(mut info: Reader<'a>, bound: usize) -> Result<(Numbers<'a>, Numbers<'a>), Refusal> {
+    info.expect_mark()?;
+    let (_, mut fields) = info.object(b"SSM", &[2])?;
+    fields.string()?; // not judged
+    let offsets = fields.block(bound as u64)?;
+    let sets = fields.block(bound as u64)?;
+    fields.finish()?;
+    info.finish()?;
+    Ok((sets, offsets))
+}
+
+/// A DMInfo of IncrementalStMan with the mark: the manager's name alone.
+fn ism_info(mut info: Reader<'_>) -> Result<(), Refusal> {
+    info.expect_mark()?;
+    let (_, mut fields) = info.object(b"ISM", &[3])?;
+    fields.string()?; // not judged
+    fields.finish()?;
+    info.finish()
 }

@@ -3,9 +3,12 @@
 
 mod common;
 mod incremental;
+mod little;
 mod standard;
 
-use common::{Column, FLAG, refused, small_table, table};
+use common::{
+    Column, FLAG, SCAN, TIME, object, refused, small_table, string, table, table_with, uint,
+};
 use model::refusal::{BOOL_VIEW, NO_ROW, NO_SUCH, SHORT_ROOM, STALE_PLAN, WRONG_CHAIN, WRONG_MAP};
 use model::{Refusal, answer, check, describe, hex, listing, numbers};
 use standard::{HEADER, Header, file_of, header, small_file, small_text};
@@ -177,6 +180,154 @@ fn of_column_set() {
         ],
         described,
     );
+}
+
+/// The small table with an object in DMInfo: its length at 787, the mark at
+/// 791, the object at 795, its name, the offsets at 827 and the sets at 860.
+#[test]
+fn of_an_object_in_dm_info() {
+    assert_changes(
+        &little::small_table(),
+        &[
+            // Past Table's end; without the mark, of a wrong length.
+            (787, 103, 1, 787),
+            (791, 0xBEBE_BEBF, 7, 787),
+            (795, 99, 1, 795), // the object: past DMInfo's end
+            (795, 14, 7, 795), // below its header
+            (795, 97, 1, 860), // an end that the sets cross
+            (799, 2, 2, 799),
+            (799, 500, 1, 799),
+            (806, 1, 3, 806),
+            (806, 3, 3, 806),
+            (810, 80, 1, 810), // the name
+            (810, 79, 1, 893), // after it the offsets are not there
+            (827, 67, 1, 827), // offsets
+            (827, 16, 7, 827),
+            (827, 32, 1, 856),
+            (827, 34, 7, 827),
+            (831, 4, 2, 831),
+            (840, 2, 3, 840),
+            (844, 2, 6, 844),
+            (844, 4, 6, 844),
+            (860, 34, 1, 860), // set numbers
+            (860, 32, 1, 889),
+            (864, 4, 2, 864),
+            (873, 0, 3, 873),
+            (877, 4, 6, 877),
+        ],
+        described,
+    );
+}
+
+/// The small table with these bytes in DMInfo.
+fn described_with(manager: &str, info: &[u8]) -> Result<(), Refusal> {
+    let columns = [SCAN, FLAG, TIME];
+    described(&table_with(1, manager, info.to_vec(), 7, &columns))
+}
+
+#[test]
+fn of_dm_info_by_its_length() {
+    let info = little::info(&[SCAN, FLAG, TIME]);
+    for length in 0..=info.len() {
+        let expected = match length {
+            0..4 => refused(7, 787),
+            4..8 => refused(1, 795),
+            8..15 => refused(1, 799),
+            15..19 => refused(1, 806),
+            19..102 => refused(1, 795),
+            _ => Ok(()),
+        };
+        assert_eq!(described_with("StandardStMan", &info[..length]), expected, "{length}");
+    }
+    // After the object: the length. In IncrementalStMan it is another object.
+    assert_eq!(described_with("StandardStMan", &[&info[..], &[0]].concat()), refused(7, 787));
+    assert_eq!(described_with("IncrementalStMan", &info), refused(2, 802));
+    assert_eq!(described_with("TiledShapeStMan", &info[..50]), Ok(()));
+    // Three bytes of the mark in set numbers.
+    let bare = [&[0xBE, 0xBE, 0xBE, 0xBF][..], &[0; 20]].concat();
+    assert_eq!(described_with("StandardStMan", &bare), Ok(()));
+    assert_eq!(
+        described_with("StandardStMan", &[&[0xBE; 4][..], &[0; 20]].concat()),
+        refused(2, 799)
+    );
+}
+
+#[test]
+fn of_an_incremental_dm_info() {
+    let info = |fields: &[Vec<u8>]| [vec![0xBE; 4], object("ISM", 3, fields)].concat();
+    let manager = "IncrementalStMan"; // three letters longer
+    let named = info(&[string("ISMData")]);
+    assert_eq!(described_with(manager, &named), Ok(()));
+    assert_eq!(described_with(manager, &with_byte(&named, 18, 2)), refused(3, 809));
+    assert_eq!(described_with(manager, &with_byte(&named, 18, 4)), refused(3, 809));
+    assert_eq!(described_with(manager, &with_byte(&named, 22, 8)), refused(1, 813));
+    assert_eq!(described_with(manager, &info(&[string("I"), uint(0)])), refused(7, 798));
+    assert_eq!(described_with(manager, &[named, vec![0xBE; 4]].concat()), refused(7, 790));
+    assert_eq!(described_with(manager, &info(&[])), refused(1, 813));
+    let name = |length| described_with(manager, &info(&[string(&"x".repeat(length))]));
+    assert_eq!(name(4096), Ok(()));
+    assert_eq!(name(4097), refused(4, 813));
+    assert_eq!(described_with("StandardStMan", &info(&[string("")])), refused(2, 799));
+}
+
+#[test]
+fn of_a_little_endian_file() {
+    let check = |file: &[u8]| check(&little::small_table(), 0, file, &mut [0; 200]).map(drop);
+    // Other numbers, little endian; then some that are big endian.
+    let changes: [Change; 18] = [
+        (0, 0, 2, 0),
+        (4, 509, 1, 4),
+        (4, 24, 7, 4),
+        (4, 71, 7, 4),
+        (4, 69, 1, 70),
+        (8, 12, 2, 8),
+        (8, 501, 1, 8),
+        (25, 2, 3, 25),
+        (30, 15, 4, 30),
+        (34, 6, 1, 832),
+        (58, 7, 4, 58),
+        (66, 135, 7, 134),
+        (70, 17, 4, 70),
+        (8, 13 << 24, 1, 8),
+        (25, 3 << 24, 3, 25),
+        (30, 64 << 24, 4, 30),
+        (66, 134 << 24, 4, 66),
+        (50, 3 << 24, 10, 0),
+    ];
+    let file = little::small_file();
+    assert_eq!(check(&file), Ok(()));
+    for (at, value, number, byte) in changes {
+        let changed = with_number(&file, at, value.swap_bytes());
+        assert_eq!(check(&changed), refused(number, byte), "{value} at {at}");
+    }
+    assert_eq!(check(&with_byte(&file, 29, 2)), refused(5, 29));
+    assert_eq!(check(&with_byte(&file, 29, 1)), refused(6, 29));
+}
+
+#[test]
+fn of_little_endian_index_text() {
+    let changes: [Change; 10] = [
+        (4, 131, 1, 4),
+        (8, 8 << 24, 1, 8),
+        (20, 1 << 24, 3, 20),
+        (24, 3, 6, 93),
+        (28, 4 << 24, 4, 28),
+        (40, 16 << 24, 1, 40),
+        (68, 1, 1, 76),
+        (80, 5 << 24, 1, 80),
+        (93, 2 << 24, 6, 93),
+        (97, 3 << 24, 11, 0),
+    ];
+    for (at, value, number, byte) in changes {
+        let text = with_number(&little::text([3, 6]), at, value.swap_bytes());
+        let file = file_of(little::header(3), &text);
+        let answer = check(&little::small_table(), 0, &file, &mut [0; 200]).map(drop);
+        assert_eq!(answer, refused(number, byte), "{value} at {at}");
+    }
+    // Nine rows; the last row is one more than a bucket holds.
+    let nine = little::table(9, &[SCAN, FLAG, TIME]);
+    let file = file_of(little::header(3), &little::text([3, 8]));
+    assert_eq!(check(&nine, 0, &file, &mut [0; 200]).map(drop), refused(11, 0));
 }
 
 fn small_check(file: &[u8]) -> Result<(), Refusal> {

@@ -1,9 +1,10 @@
 //! The small file of RULES.md 11, written here byte by byte, and its cases A to L.
 
 mod common;
+mod little;
 mod standard;
 
-use common::{Column, FLAG, SCAN, TIME, refused, small_table, table, uint, uints};
+use common::{Column, FLAG, SCAN, TIME, refused, small_table, table, table_with, uint, uints};
 use model::{
     Kind, Placed, Plan, Refusal, answer, check, hex, numbers, place, place_by_plan, plan, view,
     view_by_plan,
@@ -133,6 +134,52 @@ fn case_l() {
     assert_eq!(place(&table, &file, 1, 0, &mut room), Ok(bools));
     assert_eq!(room[..], text);
     assert_eq!(view(&table, &file, 1, 0, &mut room), refused(14, 0));
+}
+
+/// The same questions of the little endian file.
+#[test]
+fn little_endian() {
+    let (table, file) = (little::small_table(), little::small_file());
+    assert_eq!(file.len(), 832);
+    let mut room = [0xA5; 140];
+    assert_eq!(check(&table, 0, &file, &mut room), Ok(Kind::Standard));
+    assert_eq!(room[..134], little::text([3, 6]));
+    assert_eq!(room[134..], [0; 6]);
+    let place = |row, position| place(&table, &file, row, position, &mut [0; 134]);
+    assert_eq!(place(5, 2), placed(8 * 537, 64)); // A
+    assert_eq!(place(2, 2), placed(8 * 673, 64)); // B
+    assert_eq!(place(5, 1), placed(4225, 1)); // C
+    assert_eq!(place(6, 0), placed(8 * 520, 32)); // D
+    assert_eq!(place(7, 2), refused(9, 0)); // E
+    assert_eq!(view(&table, &file, 5, 1, &mut room), refused(14, 0)); // F
+    let with_time_at = |offset| little::table(7, &[SCAN, FLAG, Column { offset, ..TIME }]);
+    assert_eq!(small_check(&with_time_at(16), &file), refused(11, 0)); // G
+    let nine = little::table(9, &[SCAN, FLAG, TIME]);
+    let rows = file_of(little::header(3), &little::text([3, 8]));
+    assert_eq!(small_check(&nine, &rows), refused(11, 0)); // H
+    let two = file_of(little::header(2), &little::text([3, 6]));
+    assert_eq!(small_check(&table, &two), refused(10, 0)); // I
+    assert_eq!(small_check(&with_time_at(32), &file), Ok(Kind::Standard)); // J
+    assert_eq!(small_check(&with_time_at(33), &file), refused(11, 0));
+    assert_eq!(little::header(3)[4..8], [70, 0, 0, 0]); // K
+    // The form of DMInfo and the byte order are apart.
+    let info = little::info(&[SCAN, FLAG, TIME]);
+    let big = table_with(1, "StandardStMan", info, 7, &[SCAN, FLAG, TIME]);
+    assert_eq!(small_check(&big, &small_file()), Ok(Kind::Standard));
+    let bare = uints(&[0, 0, 0, 0, 16, 17]);
+    let bare = table_with(0, "StandardStMan", bare, 7, &[SCAN, FLAG, TIME]);
+    assert_eq!(small_check(&bare, &file), Ok(Kind::Standard));
+    // The table's endianness alone decides.
+    assert_eq!(small_check(&table, &small_file()), refused(1, 8));
+    assert_eq!(small_check(&small_table(), &file), refused(1, 8));
+}
+
+/// Links are big endian in both.
+#[test]
+fn links_in_a_little_endian_table() {
+    let mut file = little::small_file();
+    file[512 + 64..][..8].copy_from_slice(&[3, 0, 0, 0, 3, 0, 0, 0]);
+    assert_eq!(small_check(&little::small_table(), &file), refused(10, 0));
 }
 
 #[test]

@@ -3,7 +3,7 @@
 mod common;
 
 use common::{FLAG, SCAN, refused, small_table as small_file, string, table};
-use model::{DataType, Kind, answer, column, describe, listing, numbers};
+use model::{ByteOrder, DataType, Kind, answer, column, describe, listing, numbers};
 
 /// The file after a change of the only place where these bytes stand.
 fn changed(old: &[u8], new: &[u8]) -> Vec<u8> {
@@ -25,7 +25,7 @@ fn is_listed_as_in_document_01() {
 fn is_described() {
     let file = small_file();
     let description = describe(&file).unwrap();
-    assert_eq!((description.rows, description.big_endian), (7, true));
+    assert_eq!((description.rows, description.byte_order), (7, ByteOrder::Big));
     let columns: Vec<_> = description
         .columns
         .iter()

@@ -6,6 +6,7 @@
 
 use crate::encode::Encoder;
 use crate::layout::{Blame, Layout, Part};
+use crate::order::Order;
 use crate::rng::Rng;
 use crate::table::{Column, Header, Table};
 
@@ -63,17 +64,14 @@ pub trait BucketFile: Clone {
 
     /// Where what a refusal blames begins.
     fn byte(&self, blame: Blame) -> usize {
-        match blame {
-            Blame::Field(part, ..)
-            | Blame::Past(part)
-            | Blame::End(part)
-            | Blame::Torn(part, _) => {
+        match (blame, blame.part()) {
+            (_, Some(part)) => {
                 let (start, layout) = self.layout_of(part);
                 start + layout.byte(blame)
             }
-            Blame::FileEnd => self.encode().len(),
-            Blame::Nothing => 0,
-            Blame::Byte(byte) => byte,
+            (Blame::FileEnd, _) => self.encode().len(),
+            (Blame::Byte(byte), _) => byte,
+            _ => 0,
         }
     }
 }
@@ -85,19 +83,23 @@ pub struct Block {
     /// The count, if it is stated other than it is.
     pub count: Option<u32>,
     pub elements: Vec<u32>,
+    /// Their byte order, if it is other than the count's.
+    pub elements_order: Option<Order>,
 }
 
 impl Block {
     pub fn new(elements: Vec<u32>) -> Self {
-        Self { header: Header::new("Block", 1), count: None, elements }
+        Self { header: Header::new("Block", 1), count: None, elements, elements_order: None }
     }
 
     pub fn encode(&self, part: Part, out: &mut Encoder) {
         out.object(part, &self.header, |out| {
             out.uint("count", self.count.unwrap_or(self.elements.len() as u32));
-            for (number, element) in self.elements.iter().enumerate() {
-                out.nth("element", number, &element.to_be_bytes());
-            }
+            out.in_order(self.elements_order.unwrap_or(out.order()), |out| {
+                for (number, element) in self.elements.iter().enumerate() {
+                    out.nth_uint("element", number, *element);
+                }
+            });
         });
     }
 }
@@ -115,6 +117,8 @@ pub struct Patch {
 pub struct Buckets {
     pub mark: [u8; 4],
     pub header: Header,
+    /// The byte order of the header and the index, which the Bool tells.
+    pub order: Order,
     pub big_endian: u8,
     pub size: u32,
     /// The bucket size, if it is stated other than it is.
@@ -143,6 +147,7 @@ impl Buckets {
         Self {
             mark: [0xBE; 4],
             header: Header::new(name, version),
+            order: Order::of(endianness),
             big_endian: endianness as u8,
             size,
             stated_size: None,
@@ -157,6 +162,13 @@ impl Buckets {
             trailing: Vec::new(),
             torn_at: None,
         }
+    }
+
+    /// Writes the header and the index in the byte order of this endianness,
+    /// which the Bool tells.
+    pub fn turn(&mut self, endianness: u32) {
+        self.order = Order::of(endianness);
+        self.big_endian = endianness as u8;
     }
 
     /// Where a bucket starts.
@@ -174,7 +186,7 @@ impl Buckets {
         self.patches.push(Patch { bucket, offset, bytes: bytes.to_vec() });
     }
 
-    /// Another link in a bucket of the free list.
+    /// Another link in a bucket of the free list, big endian as all links.
     pub fn patch_link(&mut self, bucket: u32, link: i32) {
         self.patch(bucket, 0, &link.to_be_bytes());
     }
@@ -205,7 +217,7 @@ impl Buckets {
     /// The header's object: the fields that both kinds begin with, then the
     /// others.
     pub fn header(&self, others: impl FnOnce(&mut Encoder)) -> Layout {
-        let mut out = Encoder::default();
+        let mut out = Encoder::new(self.order);
         out.of(Part::Header, |out| out.field("mark", &self.mark));
         out.object(Part::Header, &self.header, |out| {
             out.field("big endian", &[self.big_endian]);

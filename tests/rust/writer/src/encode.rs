@@ -1,6 +1,7 @@
 //! The bytes of a table: AipsIO (Note 260, section 2; RULES.md 3).
 
 use crate::layout::{Field, LENGTH, Layout, OBJECT_NAME, OBJECT_VERSION, Object, Part};
+use crate::order::Order;
 use crate::table::{Column, DefaultValue, Header, Record, Shape, Table, Text};
 
 /// Writes fields, and records where each begins.
@@ -13,9 +14,25 @@ pub struct Encoder {
     part: Part,
     /// The objects that they stand in, the innermost last.
     open: Vec<usize>,
+    order: Order,
 }
 
 impl Encoder {
+    pub fn new(order: Order) -> Self {
+        Self { order, ..Self::default() }
+    }
+
+    pub fn order(&self) -> Order {
+        self.order
+    }
+
+    /// What `fields` writes has this byte order.
+    pub fn in_order(&mut self, order: Order, fields: impl FnOnce(&mut Self)) {
+        let outer = std::mem::replace(&mut self.order, order);
+        fields(self);
+        self.order = outer;
+    }
+
     /// Bytes that are no field.
     pub fn raw(&mut self, bytes: &[u8]) {
         self.bytes.extend_from_slice(bytes);
@@ -44,18 +61,23 @@ impl Encoder {
         self.nth(name, 0, bytes);
     }
 
+    /// A number that is one of several with its name.
+    pub fn nth_uint(&mut self, name: &'static str, number: usize, value: u32) {
+        self.nth(name, number, &self.order.number(value));
+    }
+
     pub fn uint(&mut self, name: &'static str, number: u32) {
-        self.field(name, &number.to_be_bytes());
+        self.nth_uint(name, 0, number);
     }
 
     pub fn int(&mut self, name: &'static str, number: i32) {
-        self.field(name, &number.to_be_bytes());
+        self.nth_uint(name, 0, number as u32);
     }
 
     pub fn text(&mut self, name: &'static str, text: &Text) {
         let start = self.bytes.len();
         let length = text.stated.unwrap_or(text.bytes.len() as u32);
-        self.raw(&length.to_be_bytes());
+        self.raw(&self.order.number(length));
         self.raw(&text.bytes);
         self.record_field(name, 0, start, true);
     }
@@ -69,7 +91,8 @@ impl Encoder {
 
     /// An object: its header, then the fields that `fields` writes.
     pub fn object(&mut self, part: Part, header: &Header, fields: impl FnOnce(&mut Self)) {
-        self.of(part, |out| out.open_object(header, fields));
+        let order = header.order.unwrap_or(self.order);
+        self.of(part, |out| out.in_order(order, |out| out.open_object(header, fields)));
     }
 
     fn open_object(&mut self, header: &Header, fields: impl FnOnce(&mut Self)) {
@@ -88,14 +111,14 @@ impl Encoder {
         self.uint(OBJECT_VERSION, header.version);
         let (header_end, first_field) = (self.bytes.len(), self.fields.len());
         self.open.push(object);
-        fields(self);
+        self.in_order(header.fields_order.unwrap_or(self.order), fields);
         self.open.pop();
         let kept = self.bytes.len().saturating_sub(header.cut).max(header_end);
         self.bytes.truncate(kept);
         self.raw(&header.extra);
         let end = self.bytes.len();
         let length = header.stated.unwrap_or((end - start) as u32);
-        self.bytes[start..start + 4].copy_from_slice(&length.to_be_bytes());
+        self.bytes[start..start + 4].copy_from_slice(&self.order.number(length));
         let object = &mut self.objects[object];
         (object.end, object.length) = (end, length as usize);
         object.fields = first_field..self.fields.len();
@@ -110,9 +133,9 @@ impl Encoder {
             out.uint("count", shape.count.unwrap_or(shape.axes.len() as u32));
             for (number, axis) in shape.axes.iter().enumerate() {
                 if shape.wide {
-                    out.nth("axis", number, &axis.to_be_bytes());
+                    out.nth("axis", number, &out.order.turn(axis.to_be_bytes()));
                 } else {
-                    out.nth("axis", number, &(*axis as i32).to_be_bytes());
+                    out.nth_uint("axis", number, *axis as u32);
                 }
             }
         });
@@ -120,8 +143,8 @@ impl Encoder {
 
     /// What was written, and where.
     pub fn layout(self) -> Layout {
-        let Self { bytes, objects, fields, .. } = self;
-        Layout { bytes, objects, fields, is_big_endian: true }
+        let Self { bytes, objects, fields, order, .. } = self;
+        Layout { bytes, objects, fields, order }
     }
 
     fn column_desc(&mut self, position: usize, column: &Column) {

@@ -6,6 +6,7 @@ use crate::hex::hex;
 use crate::layout::{Field, LENGTH, Layout, OBJECT_VERSION, Part};
 use crate::questions::Asked;
 use crate::samples;
+use crate::table::Table;
 
 /// Other bytes in place of a field's first ones; what follows stays where it
 /// is.
@@ -47,9 +48,8 @@ pub fn changes(layout: &Layout) -> Vec<Change> {
 /// of its header and of its container too.
 fn numbers(layout: &Layout, field: &Field) -> Vec<Vec<u8>> {
     let old = &layout.bytes[field.start..field.end];
-    let is_old = |number: &u32| layout.number(*number) == *old;
-    let own = u32::from_be_bytes(old.try_into().expect("four bytes"));
-    let own = [own, own.swap_bytes()].into_iter().find(is_old).expect("one of both orders");
+    let own = layout.order.turn(old.try_into().expect("four bytes"));
+    let own = u32::from_be_bytes(own);
     let mut numbers = vec![0, 1, 2, 7, 17, 65, u32::MAX, own ^ 0x8000_0000];
     numbers.extend([own.wrapping_add(1), own.wrapping_sub(1)]);
     if field.name == LENGTH {
@@ -58,7 +58,7 @@ fn numbers(layout: &Layout, field: &Field) -> Vec<Vec<u8>> {
         numbers.extend([size, size - 1, room, room + 1].map(|length| length as u32));
         numbers.extend([own.wrapping_add(4), own.wrapping_sub(4)]);
     }
-    numbers.into_iter().map(|number| layout.number(number).into()).collect()
+    numbers.into_iter().map(|number| layout.order.number(number).into()).collect()
 }
 
 /// Other lengths, and another first letter.
@@ -69,11 +69,25 @@ fn texts(layout: &Layout, field: &Field) -> Vec<Vec<u8>> {
     let near = [length.wrapping_sub(1), length + 1, length + 4];
     let limits = [0, 64, 65, 4096, 4097, room, room + 1, u32::MAX];
     let mut texts: Vec<Vec<u8>> =
-        near.into_iter().chain(limits).map(|length| layout.number(length).into()).collect();
+        near.into_iter().chain(limits).map(|length| layout.order.number(length).into()).collect();
     if let Some(letter) = old.get(4) {
         texts.push([&old[..4], &[letter ^ 0x20]].concat());
     }
     texts
+}
+
+/// A table after each change of a field of its DMInfos' objects.
+pub fn changed_infos(table: &Table) -> Vec<(Change, usize, Vec<u8>)> {
+    let bytes = table.encode();
+    let infos = (0..table.managers().len()).filter_map(|index| table.info_layout(index));
+    let of_info = |(start, layout): (usize, Layout)| {
+        let changed = |change: Change| {
+            let table = change.of(&bytes, |index| start + index);
+            (change, start, table)
+        };
+        changes(&layout).into_iter().map(changed).collect::<Vec<_>>()
+    };
+    infos.flat_map(of_info).collect()
 }
 
 /// The file of a subject after each change of what has this part.
@@ -91,10 +105,19 @@ pub fn changed_files<F: BucketFile>(
 
 /// All lines.
 pub fn lines() -> impl Iterator<Item = String> + Send {
-    let small = (samples::small().layout(), Asked::new(&samples::small_file()));
-    let arrays = (samples::arrays().layout(), Asked::new(&samples::arrays_incremental()));
-    let tables = [small, arrays].into_iter();
-    let tables = tables.flat_map(|(layout, asked)| table_lines(&layout, &asked));
+    let small = (samples::small(), Asked::new(&samples::small_file()));
+    let little = (samples::little(), Asked::new(&samples::little_file()));
+    let arrays = (samples::arrays(), Asked::new(&samples::arrays_incremental()));
+    let objects = (samples::arrays_with_objects(), arrays.1.clone());
+    let whole = [small, arrays].into_iter().flat_map(|(table, asked)| {
+        let layout = table.layout();
+        let changed = |change: Change| change.of(&layout.bytes, |index| index);
+        table_lines(changes(&layout).into_iter().map(changed), &asked)
+    });
+    let infos = [little, objects].into_iter().flat_map(|(table, asked)| {
+        table_lines(changed_infos(&table).into_iter().map(|(.., changed)| changed), &asked)
+    });
+    let tables = whole.chain(infos);
     let standard = samples::standard_files().into_iter();
     let incremental = samples::incremental_files().into_iter();
     tables
@@ -103,17 +126,14 @@ pub fn lines() -> impl Iterator<Item = String> + Send {
 }
 
 /// Mostly Description, but each question in its turn.
-fn table_lines(layout: &Layout, asked: &Asked) -> Vec<String> {
-    let line = |(turn, change): (usize, &Change)| {
-        let table = change.of(&layout.bytes, |index| index);
-        match turn % 16 {
-            0 => format!("listing {}", hex(&table)),
-            1 => format!("column {} {}", hex(&table), hex(b"TIME")),
-            2 | 3 => Asked { table, ..asked.clone() }.in_turn(turn / 16),
-            _ => format!("describe {}", hex(&table)),
-        }
+fn table_lines(tables: impl Iterator<Item = Vec<u8>>, asked: &Asked) -> Vec<String> {
+    let line = |(turn, table): (usize, Vec<u8>)| match turn % 16 {
+        0 => format!("listing {}", hex(&table)),
+        1 => format!("column {} {}", hex(&table), hex(b"TIME")),
+        2 | 3 => Asked { table, ..asked.clone() }.in_turn(turn / 16),
+        _ => format!("describe {}", hex(&table)),
     };
-    changes(layout).iter().enumerate().map(line).collect()
+    tables.enumerate().map(line).collect()
 }
 
 fn file_lines<F: BucketFile>(subject: &Subject<F>) -> Vec<String> {

@@ -1,5 +1,6 @@
 //! Pseudo random good tables.
 
+use crate::info::InfoObject;
 use crate::record::{self, Value};
 use crate::rng::Rng;
 use crate::table::{
@@ -105,13 +106,36 @@ fn managers(rng: &mut Rng, count: usize) -> Vec<Manager> {
 
 pub fn manager(rng: &mut Rng, number: u32) -> Manager {
     match rng.below(8) {
-        0..=3 => Manager::new("StandardStMan", number),
-        4..=5 => Manager::new("IncrementalStMan", number),
+        0..=3 => info_form(rng, Manager::new("StandardStMan", number)),
+        4..=5 => info_form(rng, Manager::new("IncrementalStMan", number)),
         _ => {
             let name = rng.pick(&OTHER_KINDS);
-            let count = rng.pick(&[0, 0, 1, 7, 8, 16, 30]);
-            Manager { info: rng.bytes(count).into(), ..Manager::new(name, number) }
+            Manager { info: any_info(rng).into(), ..Manager::new(name, number) }
         }
+    }
+}
+
+/// A manager of one of the two kinds, with an object in its DMInfo or without.
+pub fn info_form(rng: &mut Rng, manager: Manager) -> Manager {
+    if rng.chance(1, 2) {
+        return manager;
+    }
+    let name = match rng.below(4) {
+        0 => manager.name.clone(),
+        1 => "Data".into(),
+        _ => short_text(rng), // it is not judged
+    };
+    manager.with_object(name)
+}
+
+/// The DMInfo of another kind, which is not looked at: any bytes, the mark and
+/// any bytes, or an object of one of the two kinds.
+fn any_info(rng: &mut Rng) -> Vec<u8> {
+    let count = rng.pick(&[0, 0, 1, 7, 8, 16, 30]);
+    match rng.below(4) {
+        0 => [vec![0xBE; 4], rng.bytes(count)].concat(),
+        1 => InfoObject::incremental("").layout(0).bytes,
+        _ => rng.bytes(count),
     }
 }
 

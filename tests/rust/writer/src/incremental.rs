@@ -7,6 +7,7 @@ use crate::buckets::{Block, BucketFile, Buckets};
 use crate::cells;
 use crate::encode::Encoder;
 use crate::layout::{Layout, Part};
+use crate::order::Order;
 use crate::table::{Column, Header, STRING, Table};
 
 /// A bucket begins with the offset of its index; the data part follows it.
@@ -20,7 +21,7 @@ pub struct IncrementalFile {
     /// The buckets that hold data, in the index's order.
     pub data: Vec<DataBucket>,
     /// The byte order of the numbers in the buckets.
-    pub is_big_endian: bool,
+    pub order: Order,
 }
 
 /// The ISMIndex.
@@ -67,17 +68,23 @@ impl Values {
     fn length(&self) -> usize {
         4 + 4 * self.starts.len() + 4 * self.offsets.len()
     }
+
+    fn encode(&self, out: &mut Encoder) {
+        out.uint("count", self.count.unwrap_or(self.starts.len() as u32));
+        for (number, start) in self.starts.iter().enumerate() {
+            out.nth_uint("start", number, *start);
+        }
+        for (number, offset) in self.offsets.iter().enumerate() {
+            out.nth_uint("offset", number, *offset);
+        }
+    }
 }
 
 impl IncrementalFile {
     /// A file whose data buckets hold the rows from each first row to the next;
     /// the last of these is the row count.
-    pub fn new(
-        buckets: Buckets,
-        is_big_endian: bool,
-        first_rows: Vec<u32>,
-        data: Vec<DataBucket>,
-    ) -> Self {
+    pub fn new(buckets: Buckets, first_rows: Vec<u32>, data: Vec<DataBucket>) -> Self {
+        let order = buckets.order;
         let index = Index {
             mark: [0xBE; 4],
             header: Header::new("ISMIndex", 1),
@@ -85,36 +92,20 @@ impl IncrementalFile {
             first_rows: Block::new(first_rows),
             buckets: Block::new(data.iter().map(|bucket| bucket.number).collect()),
         };
-        Self { buckets, unique_column: 0, index, data, is_big_endian }
-    }
-
-    /// A number of a bucket.
-    pub fn number(&self, number: u32) -> [u8; 4] {
-        if self.is_big_endian { number.to_be_bytes() } else { number.to_le_bytes() }
+        Self { buckets, unique_column: 0, index, data, order }
     }
 
     /// The bucket of an entry; its index may pass the bucket's end.
     pub fn bucket(&self, entry: usize) -> Layout {
         let bucket = &self.data[entry];
         let offset = bucket.index_offset.unwrap_or(DATA_START + bucket.data.len() as u32);
-        let mut out = Encoder::default();
-        out.of(Part::Bucket(entry), |out| out.field("index offset", &self.number(offset)));
+        let mut out = Encoder::new(self.order);
+        out.of(Part::Bucket(entry), |out| out.uint("index offset", offset));
         out.raw(&bucket.data);
         for (column, values) in bucket.columns.iter().enumerate() {
-            out.of(Part::Values(entry, column), |out| self.encode_values(values, out));
+            out.of(Part::Values(entry, column), |out| values.encode(out));
         }
-        Layout { is_big_endian: self.is_big_endian, ..out.layout() }
-    }
-
-    fn encode_values(&self, values: &Values, out: &mut Encoder) {
-        let count = values.count.unwrap_or(values.starts.len() as u32);
-        out.field("count", &self.number(count));
-        for (number, start) in values.starts.iter().enumerate() {
-            out.nth("start", number, &self.number(*start));
-        }
-        for (number, offset) in values.offsets.iter().enumerate() {
-            out.nth("offset", number, &self.number(*offset));
-        }
+        out.layout()
     }
 }
 
@@ -173,7 +164,7 @@ impl BucketFile for IncrementalFile {
     }
 
     fn index_layout(&self) -> Layout {
-        let mut out = Encoder::default();
+        let mut out = Encoder::new(self.buckets.order);
         out.of(Part::Index(0), |out| out.field("mark", &self.index.mark));
         out.object(Part::Index(0), &self.index.header, |out| {
             let count = self.index.buckets.elements.len() as u32;

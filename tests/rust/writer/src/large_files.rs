@@ -4,6 +4,7 @@
 
 use crate::buckets::{Buckets, Subject};
 use crate::cells;
+use crate::generate;
 use crate::incremental::{self, DataBucket, IncrementalFile, Values};
 use crate::lean;
 use crate::questions::Asked;
@@ -56,7 +57,8 @@ pub fn standard(rng: &mut Rng) -> Subject<StandardFile> {
         indices.push(Index::new(rows_per_bucket, 4, &standard::generate::entries(&parts)));
     }
     rng.shuffle(&mut columns);
-    let table = lean::bare(rows, endianness, columns, vec![Manager::new("StandardStMan", 0)]);
+    let manager = generate::info_form(rng, Manager::new("StandardStMan", 0));
+    let table = lean::bare(rows, endianness, columns, vec![manager]);
     let size = LINKS as u32 + 64;
     let buckets = Buckets::new("StandardStMan", 3, endianness, size, BUCKETS);
     let mut file = StandardFile::new(buckets, Vec::new(), indices);
@@ -115,12 +117,13 @@ pub fn incremental(rng: &mut Rng) -> Subject<IncrementalFile> {
         data.push(DataBucket { number, index_offset: None, data: data_part, columns });
     }
     let rows = first_rows[data.len()];
-    let table = lean::bare(rows, endianness, columns, vec![Manager::new("IncrementalStMan", 0)]);
+    let manager = generate::info_form(rng, Manager::new("IncrementalStMan", 0));
+    let table = lean::bare(rows, endianness, columns, vec![manager]);
     let size = 4 + 6 * 3 + 2 * (4 + 8 * 3);
     let mut buckets = Buckets::new("IncrementalStMan", 5, endianness, size, BUCKETS);
     buckets.free = free;
     buckets.filler = Some(rng.number());
-    let file = IncrementalFile::new(buckets, endianness == 1, first_rows, data);
+    let file = IncrementalFile::new(buckets, first_rows, data);
     Subject { table, number: 0, file }
 }
 
@@ -129,10 +132,12 @@ pub fn incremental(rng: &mut Rng) -> Subject<IncrementalFile> {
 pub fn large_bucket(rng: &mut Rng, variant: u64) -> Subject<StandardFile> {
     let rows = if variant.is_multiple_of(2) { 8_388_608 } else { 0 };
     let columns = vec![Column::scalar(BOOL, "")];
-    let table = lean::bare(rows, 1, columns, vec![Manager::new("StandardStMan", 0)]);
+    let manager = generate::info_form(rng, Manager::new("StandardStMan", 0));
+    let endianness = rng.below(2) as u32;
+    let table = lean::bare(rows, endianness, columns, vec![manager]);
     let entries: &[(u32, u32)] = if rows > 0 { &[(rows - 1, 0)] } else { &[] };
     let count = if rows > 0 { 2 } else { 1 };
-    let buckets = Buckets::new("StandardStMan", 3, 1, LARGEST, count);
+    let buckets = Buckets::new("StandardStMan", 3, endianness, LARGEST, count);
     let indices = vec![Index::new(8_388_608, 1, entries)];
     let mut file = StandardFile::new(buckets, vec![count - 1], indices);
     let length = file.text().bytes.len() as u32;
@@ -154,7 +159,7 @@ pub fn most_entries(endianness: u32) -> Subject<StandardFile> {
         offset += cells::extent(&column, rows_per_bucket) as u32;
         columns.push(column);
     }
-    let table = lean::bare(rows, endianness, columns, vec![Manager::new("StandardStMan", 3)]);
+    let table = lean::bare(rows, endianness, columns, vec![manager_3("StandardStMan", endianness)]);
     let mut index = Index::new(rows_per_bucket, 4, &standard::generate::entries(&parts));
     // In falling order, without the index's.
     index.buckets.elements = (0..BUCKETS).rev().filter(|bucket| *bucket != INDEX_BUCKET).collect();
@@ -189,7 +194,7 @@ pub fn standard_above_4_gib(endianness: u32) -> Subject<StandardFile> {
         column.info.offset = end;
     }
     columns.push(Column::scalar(UCHAR, "").at(0, 0));
-    let table = lean::bare(rows, endianness, columns, vec![Manager::new("StandardStMan", 3)]);
+    let table = lean::bare(rows, endianness, columns, vec![manager_3("StandardStMan", endianness)]);
     let entries: Vec<(u32, u32)> = (1..)
         .zip(SPREAD)
         .map(|(count, bucket)| ((rows_per_bucket * count).min(rows) - 1, bucket))
@@ -206,7 +211,7 @@ pub fn bools_above_4_gib(endianness: u32) -> Subject<StandardFile> {
     let rows_per_bucket = 8 * LARGEST;
     let rows = rows_per_bucket * SPREAD.len() as u32;
     let columns = vec![Column::scalar(BOOL, "")];
-    let table = lean::bare(rows, endianness, columns, vec![Manager::new("StandardStMan", 3)]);
+    let table = lean::bare(rows, endianness, columns, vec![manager_3("StandardStMan", endianness)]);
     let entries: Vec<(u32, u32)> =
         (1..).zip(SPREAD).map(|(count, bucket)| (rows_per_bucket * count - 1, bucket)).collect();
     let buckets = Buckets::new("StandardStMan", 3, endianness, LARGEST, BUCKETS);
@@ -238,10 +243,18 @@ pub fn incremental_above_4_gib(endianness: u32) -> Subject<IncrementalFile> {
     });
     let first_rows = (0..=SPREAD.len() as u32).map(|entry| rows_of_bucket * entry).collect();
     let rows = rows_of_bucket * SPREAD.len() as u32;
-    let table = lean::bare(rows, endianness, columns, vec![Manager::new("IncrementalStMan", 3)]);
+    let table =
+        lean::bare(rows, endianness, columns, vec![manager_3("IncrementalStMan", endianness)]);
     let buckets = Buckets::new("IncrementalStMan", 5, endianness, LARGEST, BUCKETS);
-    let file = IncrementalFile::new(buckets, endianness == 1, first_rows, data.into());
+    let file = IncrementalFile::new(buckets, first_rows, data.into());
     of_manager_3(table, file)
+}
+
+/// The manager of this kind with number 3; in little endian tables with an
+/// object in its DMInfo.
+fn manager_3(kind: &str, endianness: u32) -> Manager {
+    let manager = Manager::new(kind, 3);
+    if endianness == 0 { manager.with_object(kind) } else { manager }
 }
 
 /// The subject of a table's only manager, number 3.

@@ -1,6 +1,7 @@
 //! Where the fields of a file stand, as the writer put them there, and which of
 //! them a refusal blames.
 
+use crate::order::Order;
 use std::ops::Range;
 
 /// Whose a field is: an object, or fields that belong together; by number where
@@ -20,6 +21,10 @@ pub enum Part {
     ColumnKeywords(usize),
     ColumnSet,
     Manager(usize),
+    /// The object in a DMInfo by its manager's position, and its Blocks.
+    Info(usize),
+    InfoOffsets(usize),
+    InfoSets(usize),
     /// By the column's position, as the next.
     ColumnInfo(usize),
     InfoShape(usize),
@@ -67,6 +72,8 @@ pub enum Blame {
     Nothing,
     /// The field with this name and number of a part.
     Field(Part, &'static str, usize),
+    /// What begins so many bytes after the only field of this name does.
+    Within(Part, &'static str, usize),
     /// The first field or object that passes the end of this object, as its
     /// length is stated.
     Past(Part),
@@ -78,6 +85,20 @@ pub enum Blame {
     /// The file's length.
     FileEnd,
     Byte(usize),
+}
+
+impl Blame {
+    /// The part that it names.
+    pub fn part(self) -> Option<Part> {
+        match self {
+            Self::Field(part, ..)
+            | Self::Within(part, ..)
+            | Self::Past(part)
+            | Self::End(part)
+            | Self::Torn(part, _) => Some(part),
+            Self::Nothing | Self::FileEnd | Self::Byte(_) => None,
+        }
+    }
 }
 
 /// A field: a number, or a String with its length.
@@ -116,15 +137,10 @@ pub struct Layout {
     pub objects: Vec<Object>,
     pub fields: Vec<Field>,
     /// The byte order of its numbers.
-    pub is_big_endian: bool,
+    pub order: Order,
 }
 
 impl Layout {
-    /// The bytes of a number.
-    pub fn number(&self, number: u32) -> [u8; 4] {
-        if self.is_big_endian { number.to_be_bytes() } else { number.to_le_bytes() }
-    }
-
     /// The bytes from a place in a container to the container's end.
     pub fn room(&self, start: usize, container: Option<usize>) -> usize {
         let end = container.map_or(self.bytes.len(), |object| self.objects[object].end);
@@ -152,6 +168,7 @@ impl Layout {
         match blame {
             Blame::Nothing => 0,
             Blame::Field(of, name, number) => self.field(of, name, number).start,
+            Blame::Within(of, name, bytes) => self.field(of, name, 0).start + bytes,
             Blame::Past(of) => {
                 let object = self.object(of);
                 self.first_past(object.start + object.length, object.fields.clone())
@@ -183,7 +200,7 @@ impl Layout {
         for object in &self.objects {
             if object.start + 4 <= length && length < object.end {
                 let left = (length - object.start) as u32;
-                bytes[object.start..object.start + 4].copy_from_slice(&left.to_be_bytes());
+                bytes[object.start..object.start + 4].copy_from_slice(&self.order.number(left));
             }
         }
         bytes

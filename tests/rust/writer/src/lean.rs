@@ -1,7 +1,7 @@
 //! Pseudo random tables with files: their `table.dat` has few bytes, so that
 //! request lines stay short.
 
-use crate::generate::OTHER_KINDS;
+use crate::generate::{OTHER_KINDS, info_form};
 use crate::rng::Rng;
 use crate::table::{BOOL, Column, Manager, Record, STRING, TYPES, Table};
 
@@ -25,7 +25,7 @@ pub fn managers(rng: &mut Rng, kind: &str) -> (Vec<Manager>, u32) {
             1 | 2 => "IncrementalStMan",
             _ => rng.pick(&OTHER_KINDS),
         };
-        managers.push(Manager::new(name, number));
+        managers.push(info_form(rng, Manager::new(name, number)));
     }
     let number = managers[0].number;
     rng.shuffle(&mut managers);

@@ -2,6 +2,7 @@
 
 use crate::buckets::{BucketFile, Buckets, HEADER_ROOM, Subject};
 use crate::incremental::{DataBucket, IncrementalFile, Values};
+use crate::order::Order;
 use crate::record::{self, Value};
 use crate::standard::{Index, StandardFile};
 use crate::table::{
@@ -9,9 +10,10 @@ use crate::table::{
 };
 
 /// The sample files: a name and the bytes of its `table.dat`.
-pub fn all() -> [(&'static str, Vec<u8>); 5] {
+pub fn all() -> [(&'static str, Vec<u8>); 6] {
     [
         ("small", small().encode()),
+        ("little", little().encode()),
         ("arrays", arrays().encode()),
         ("overlong", overlong()),
         ("empty", Vec::new()),
@@ -23,6 +25,7 @@ pub fn all() -> [(&'static str, Vec<u8>); 5] {
 pub fn files(name: &str) -> Vec<(u32, Vec<u8>)> {
     match name {
         "small" => vec![(0, small_file().file.encode())],
+        "little" => vec![(0, little_file().file.encode())],
         "arrays" => {
             vec![(0, arrays_standard().file.encode()), (1, arrays_incremental().file.encode())]
         }
@@ -32,16 +35,25 @@ pub fn files(name: &str) -> Vec<(u32, Vec<u8>)> {
 
 /// The small file of RULES.md 11.
 pub fn small() -> Table {
+    small_table(1, Manager::new("StandardStMan", 0))
+}
+
+/// The same little endian, with an object in its DMInfo.
+pub fn little() -> Table {
+    small_table(0, Manager::new("StandardStMan", 0).with_object("StandardStMan"))
+}
+
+fn small_table(endianness: u32, manager: Manager) -> Table {
     let columns = vec![
         Column::scalar(INT, "SCAN").at(0, 0).comment("scan number"),
         Column::scalar(BOOL, "FLAG").at(0, 16).comment("true if the row is not to be used"),
         Column::scalar(DOUBLE, "TIME").at(0, 17).comment("time of the row").keywords(units(&["s"])),
     ];
-    Table::new(7, 1, columns, vec![Manager::new("StandardStMan", 0)])
+    Table::new(7, endianness, columns, vec![manager])
 }
 
 /// A little endian table like a MeasurementSet, with scalars, strings and
-/// arrays of every form in several managers.
+/// arrays of every form in several managers; there is no mark in its DMInfos.
 pub fn arrays() -> Table {
     let managers = vec![
         Manager::new("StandardStMan", 0),
@@ -89,15 +101,25 @@ pub fn arrays() -> Table {
 
 /// The small file of RULES.md 11: five buckets of 64 bytes, the index in 1, 3 and 4.
 pub fn small_file() -> Subject<StandardFile> {
-    let buckets = Buckets::new("StandardStMan", 3, 1, 64, 5);
+    file_of_small(small())
+}
+
+/// The same values in the little endian table.
+pub fn little_file() -> Subject<StandardFile> {
+    file_of_small(little())
+}
+
+fn file_of_small(table: Table) -> Subject<StandardFile> {
+    let order = Order::of(table.endianness);
+    let buckets = Buckets::new("StandardStMan", 3, table.endianness, 64, 5);
     let indices = vec![Index::new(4, 3, &[(3, 2), (6, 0)])];
     let file = StandardFile::new(buckets, vec![1, 3, 4], indices);
-    let mut subject = Subject { table: small(), number: 0, file };
+    let mut subject = Subject { table, number: 0, file };
     for row in 0..7 {
-        let scan = 1 + row as i32 / 4;
+        let scan = 1 + row / 4;
         let time = 4_895_000_000.0 + 10.0 * f64::from(row);
-        put(&mut subject, "SCAN", row, &scan.to_be_bytes());
-        put(&mut subject, "TIME", row, &time.to_be_bytes());
+        put(&mut subject, "SCAN", row, &order.number(scan));
+        put(&mut subject, "TIME", row, &order.turn(time.to_be_bytes()));
     }
     put_bits(&mut subject, "FLAG", |row| vec![row == 2 || row == 5]);
     subject
@@ -156,26 +178,45 @@ pub fn arrays_incremental() -> Subject<IncrementalFile> {
     let data = vec![bucket(2, 12, 4_895_000_000.0, 1), bucket(0, 8, 4_895_000_030.0, 2)];
     let mut buckets = Buckets::new("IncrementalStMan", 5, 0, 128, 3);
     buckets.free = vec![1];
-    let file = IncrementalFile::new(buckets, false, vec![0, 12, 20], data);
+    let file = IncrementalFile::new(buckets, vec![0, 12, 20], data);
     Subject { table: arrays(), number: 1, file }
 }
 
-/// The samples' StandardStMan files with their tables, and the small one in the
-/// other byte order with free space.
-pub fn standard_files() -> Vec<Subject<StandardFile>> {
-    let mut little = small_file();
-    little.table.endianness = 0;
-    little.file.buckets.big_endian = 0;
-    little.file.indices[0].free_space.pairs = vec![(49, 15), (64, 0)];
-    vec![small_file(), little, arrays_standard()]
+/// The arrays table with objects in its DMInfos, one of each kind.
+pub fn arrays_with_objects() -> Table {
+    let mut table = arrays();
+    for (manager, name) in table.managers_mut().iter_mut().zip(["", "ISMData", "", ""]) {
+        *manager = manager.clone().with_object(name);
+    }
+    table.write_infos();
+    table
 }
 
-/// The samples' IncrementalStMan file with its table, in both byte orders.
+/// The samples' StandardStMan files with their tables, and the small one in
+/// both byte orders with free space, each with the other's form of DMInfo.
+pub fn standard_files() -> Vec<Subject<StandardFile>> {
+    let with_free_space = |mut subject: Subject<StandardFile>| {
+        subject.file.indices[0].free_space.pairs = vec![(49, 15), (64, 0)];
+        subject
+    };
+    let big = small_table(1, Manager::new("StandardStMan", 0).with_object("StandardStMan"));
+    let little = small_table(0, Manager::new("StandardStMan", 0));
+    vec![
+        small_file(),
+        little_file(),
+        arrays_standard(),
+        with_free_space(file_of_small(big)),
+        with_free_space(file_of_small(little)),
+    ]
+}
+
+/// The samples' IncrementalStMan file with its table, in both byte orders; the
+/// big endian table with objects in its DMInfos.
 pub fn incremental_files() -> Vec<Subject<IncrementalFile>> {
-    let mut big = arrays_incremental();
+    let mut big = Subject { table: arrays_with_objects(), ..arrays_incremental() };
     big.table.endianness = 1;
-    big.file.buckets.big_endian = 1;
-    big.file.is_big_endian = true;
+    big.file.buckets.turn(1);
+    big.file.order = Order::Big;
     vec![arrays_incremental(), big]
 }
 

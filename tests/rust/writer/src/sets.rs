@@ -6,21 +6,25 @@ use crate::file_cases;
 use crate::generate;
 use crate::hex::hex;
 use crate::large_files;
-use crate::layout::Layout;
+use crate::layout::{Layout, Part};
+use crate::lean;
 use crate::looks;
 use crate::rng::Rng;
 use crate::samples;
 use crate::small_file;
-use crate::table::{BOOL, Column, INT, Manager, Record, Table};
+use crate::table::{BOOL, COMPLEX, Column, DCOMPLEX, INT, Manager, Record, Table};
 use crate::torn;
 use crate::type_numbers;
+use std::ops::Range;
 
 /// How to ask for a set, for usage texts.
 pub const USAGE: &str = "\
 tables SEED COUNT  generated questions about good tables and tables with faults
-prefixes           Description of every prefix of two good tables, as it is and
-                   with the lengths of cut objects cut too; and of long ones
-bytes              Description after every change of one byte of a small table
+prefixes           Description of every prefix of good tables, and with every prefix
+                   of a DMInfo's object, as it is and with the lengths of cut
+                   objects cut too; and of long ones
+bytes              Description after every change of one byte of a small table,
+                   and of the object in its DMInfo
 large [SEED COUNT] tables of 64 columns and 16 managers, near 65,536 bytes
 types [SEED COUNT] the bits of an element, by type number: -1,000 to 100,000
                    and far numbers that end as a type's does, or generated ones
@@ -98,11 +102,25 @@ impl Set {
                 question(rng, &case)
             })),
             Self::Prefixes => {
-                let tables = [samples::small(), samples::arrays()];
+                let tables =
+                    [samples::small(), samples::arrays(), samples::little(), complex_scalars()];
                 let tables = tables.into_iter().flat_map(|table| prefixes(table.layout()));
-                Box::new(tables.chain(long_prefixes(samples::overlong())))
+                let infos = [samples::little(), samples::arrays_with_objects()];
+                let infos = infos.into_iter().flat_map(info_prefixes);
+                Box::new(tables.chain(infos).chain(long_prefixes(samples::overlong())))
             }
-            Self::Bytes => Box::new(changes(&tiny().encode())),
+            Self::Bytes => {
+                let mut with_object = tiny();
+                let manager = &mut with_object.managers_mut()[0];
+                *manager = manager.clone().with_object("T");
+                with_object.write_infos();
+                let bytes = with_object.encode();
+                let start = with_object.byte(Part::Manager(0).field("info"));
+                let end = bytes.len();
+                let table = tiny().encode();
+                let places = 0..table.len();
+                Box::new(changes(table, places).chain(changes(bytes, start..end)))
+            }
             Self::Large { seed, count } => Box::new((0..count).map(move |number| {
                 let rng = &mut Rng::new(seed, number);
                 let case = large_case(rng);
@@ -149,9 +167,8 @@ pub struct Case {
 impl Case {
     pub fn new(table: &Table, expect: Expect, what: &'static str) -> Self {
         let names = table.columns().iter().map(|column| column.name.bytes.clone()).collect();
-        let layout = table.layout();
-        let expect = expect.at_byte(|blame| layout.byte(blame));
-        Self { bytes: layout.bytes, expect, what, names }
+        let expect = expect.at_byte(|blame| table.byte(blame));
+        Self { bytes: table.encode(), expect, what, names }
     }
 }
 
@@ -270,6 +287,27 @@ fn prefixes(layout: Layout) -> impl Iterator<Item = String> + Send {
     })
 }
 
+/// Every prefix of the object in each DMInfo, as it is and with the lengths of
+/// the objects that it cuts off cut too; the DMInfo's own length and Table's
+/// follow.
+fn info_prefixes(table: Table) -> impl Iterator<Item = String> + Send {
+    let infos = (0..table.managers().len()).filter_map(|index| {
+        let (_, layout) = table.info_layout(index)?;
+        Some((index, layout))
+    });
+    let infos: Vec<(usize, Layout)> = infos.collect();
+    infos.into_iter().flat_map(move |(index, layout)| {
+        let table = table.clone();
+        (0..=layout.bytes.len()).flat_map(move |length| {
+            [layout.bytes[..length].to_vec(), layout.cut(length)].map(|bytes| {
+                let mut table = table.clone();
+                table.managers_mut()[index].info = bytes.into();
+                format!("describe {}", hex(&table.encode()))
+            })
+        })
+    })
+}
+
 /// Some prefixes of a table with bytes after it, and those beside the longest.
 fn long_prefixes(table: Vec<u8>) -> impl Iterator<Item = String> + Send {
     let longest = faults::MAX_FILE;
@@ -290,12 +328,18 @@ pub fn tiny() -> Table {
     table
 }
 
-/// Every change of one byte to one of the 255 other values.
-fn changes(bytes: &[u8]) -> impl Iterator<Item = String> + Send + use<> {
-    let bytes = bytes.to_vec();
+/// A small table of complex scalars, whose default values are one field each.
+fn complex_scalars() -> Table {
+    let columns = [COMPLEX, DCOMPLEX].map(|data_type| Column::scalar(data_type, ""));
+    let manager = Manager::new("IncrementalStMan", 0).with_object("ISMData");
+    lean::bare(7, 0, columns.into(), vec![manager])
+}
+
+/// Every change of one of these bytes to one of the 255 other values.
+fn changes(bytes: Vec<u8>, places: Range<usize>) -> impl Iterator<Item = String> + Send {
     let good = format!("describe {}", hex(&bytes));
     let start = good.len() - 2 * bytes.len();
-    (0..bytes.len()).flat_map(move |index| {
+    places.flat_map(move |index| {
         let good = good.clone();
         let byte = bytes[index];
         (0..=255).filter(move |value| *value != byte).map(move |value| {

@@ -5,7 +5,7 @@ use crate::buckets::{BucketFile, Subject};
 use crate::questions::Asked;
 use crate::samples;
 use crate::standard::{Index, StandardFile};
-use crate::table::{BOOL, Column, Manager, Table};
+use crate::table::{BOOL, Column, Table};
 
 type Small = Subject<StandardFile>;
 
@@ -21,36 +21,30 @@ const ROOM: usize = 150;
 
 /// All lines.
 pub fn lines() -> impl Iterator<Item = String> + Send {
-    let files = [small(1), small(0)];
-    let answers = files.into_iter().flat_map(|subject| {
+    let answers = both().into_iter().flat_map(|subject| {
         let asked = Asked::new(&subject);
         [rooms(&asked), cells(&asked)].concat()
     });
-    let spoilt = torn().chain(changes()).map(|asked| asked.check(0, ROOM));
-    answers.chain(variants().into_iter().flat_map(variant_lines)).chain(spoilt)
+    let variants = both().into_iter().flat_map(|small| variants(&small));
+    let spoilt = spoilt().map(|asked| asked.check(0, ROOM));
+    answers.chain(variants.flat_map(variant_lines)).chain(spoilt)
 }
 
-/// The file in both byte orders, its variants, its prefixes, and its changes of
-/// one byte.
+/// The file in both byte orders, and of each its variants, its prefixes, and
+/// its changes of one byte.
 pub fn cases() -> impl Iterator<Item = Asked> + Send {
-    let files = [small(1), small(0)].into_iter().chain(variants());
-    files.map(|subject| Asked::new(&subject)).chain(torn()).chain(changes())
+    let variants = both().into_iter().flat_map(|small| variants(&small));
+    let files = both().into_iter().chain(variants);
+    files.map(|subject| Asked::new(&subject)).chain(spoilt())
 }
 
-/// The file in one of the byte orders.
-fn small(endianness: u32) -> Small {
-    let mut subject = samples::small_file();
-    subject.table.endianness = endianness;
-    subject.file.buckets.big_endian = endianness as u8;
-    subject
+/// The file in both byte orders.
+fn both() -> [Small; 2] {
+    [samples::small_file(), samples::little_file()]
 }
 
-/// The big endian file after a change.
-fn after(change: impl FnOnce(&mut Small)) -> Small {
-    let mut subject = small(1);
-    change(&mut subject);
-    subject.table.write_infos();
-    subject
+fn spoilt() -> impl Iterator<Item = Asked> + Send {
+    both().into_iter().flat_map(|small| torn(&small).chain(changes(small)))
 }
 
 /// Every question with every kind of room.
@@ -110,9 +104,14 @@ fn variant_lines(subject: Small) -> Vec<String> {
 }
 
 /// G to L, and values beside those that they name.
-fn variants() -> Vec<Small> {
+fn variants(small: &Small) -> Vec<Small> {
     let mut variants = Vec::new();
-    let mut add = |change: &dyn Fn(&mut Small)| variants.push(after(change));
+    let mut add = |change: &dyn Fn(&mut Small)| {
+        let mut subject = small.clone();
+        change(&mut subject);
+        subject.table.write_infos();
+        variants.push(subject);
+    };
     let at = |position: usize, offset: u32| {
         move |subject: &mut Small| subject.table.columns_mut()[position].info.offset = offset
     };
@@ -186,7 +185,7 @@ fn variants() -> Vec<Small> {
     for size in [15, 16, 63, 64, 65, 1_048_576, 1_048_577] {
         add(&|subject| subject.file.buckets.stated_size = Some(size));
     }
-    add(&|subject| *subject = eight_bools());
+    add(&eight_bools);
     variants
 }
 
@@ -196,24 +195,22 @@ fn set_rows(table: &mut Table, rows: u32) {
 }
 
 /// L: 8 Bools in each row, at offset 0 of bucket 0.
-fn eight_bools() -> Small {
+fn eight_bools(subject: &mut Small) {
     let columns = vec![Column::direct(BOOL, "FLAG", &[8])];
-    let table = Table::new(2, 1, columns, vec![Manager::new("StandardStMan", 0)]);
-    let mut file = samples::small_file().file;
-    file.indices = vec![Index::new(4, 1, &[(1, 0)])];
-    Subject { table, number: 0, file }
+    let managers = subject.table.managers().to_vec();
+    subject.table = Table::new(2, subject.table.endianness, columns, managers);
+    subject.file.indices = vec![Index::new(4, 1, &[(1, 0)])];
 }
 
 /// Every prefix of the file.
-fn torn() -> impl Iterator<Item = Asked> + Send {
-    let whole = Asked::new(&small(1));
+fn torn(small: &Small) -> impl Iterator<Item = Asked> + Send + use<> {
+    let whole = Asked::new(small);
     (0..=whole.file.len())
         .map(move |length| Asked { file: whole.file[..length].to_vec(), ..whole.clone() })
 }
 
 /// Changes of each byte of the header and of the index buckets.
-fn changes() -> impl Iterator<Item = Asked> + Send {
-    let subject = small(1);
+fn changes(subject: Small) -> impl Iterator<Item = Asked> + Send {
     let whole = Asked::new(&subject);
     let header = 0..subject.file.header().bytes.len();
     let index = [1, 3, 4].into_iter().flat_map(move |bucket| {

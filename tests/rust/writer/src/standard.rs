@@ -100,8 +100,8 @@ impl FreeSpace {
             out.uint("count", self.count.unwrap_or(self.pairs.len() as u32));
             out.uint("increment", self.increment);
             for (number, (offset, length)) in self.pairs.iter().enumerate() {
-                out.nth("key", number, &offset.to_be_bytes());
-                out.nth("value", number, &length.to_be_bytes());
+                out.nth_uint("key", number, *offset as u32);
+                out.nth_uint("value", number, *length as u32);
             }
         });
     }
@@ -127,7 +127,7 @@ impl StandardFile {
 
     /// The index text, and where its objects stand.
     pub fn text(&self) -> Layout {
-        let mut out = Encoder::default();
+        let mut out = Encoder::new(self.buckets.order);
         for (set, index) in self.indices.iter().enumerate() {
             index.encode(set, &mut out);
         }

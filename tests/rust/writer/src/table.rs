@@ -4,6 +4,10 @@
 //! functions make good tables. Lengths are computed when the table is encoded,
 //! unless another one is stated.
 
+use crate::info::InfoObject;
+use crate::layout::{Blame, Layout, Part};
+use crate::order::Order;
+
 /// A String: its bytes, and a length other than theirs if one is stated.
 /// A DMInfo has the same form.
 #[derive(Clone, Debug, Default, PartialEq, Eq)]
@@ -41,11 +45,25 @@ pub struct Header {
     pub cut: usize,
     /// Bytes added at the object's end.
     pub extra: Vec<u8>,
+    /// The byte order of the whole object, if it is other than that of what
+    /// holds it.
+    pub order: Option<Order>,
+    /// The byte order of what follows the header, if it is other than the
+    /// header's.
+    pub fields_order: Option<Order>,
 }
 
 impl Header {
     pub fn new(name: &str, version: u32) -> Self {
-        Self { name: name.into(), version, stated: None, cut: 0, extra: Vec::new() }
+        Self {
+            name: name.into(),
+            version,
+            stated: None,
+            cut: 0,
+            extra: Vec::new(),
+            order: None,
+            fields_order: None,
+        }
     }
 
     /// The header's own size: length, name, version.
@@ -271,17 +289,77 @@ impl Column {
 pub struct Manager {
     pub name: Text,
     pub number: u32,
+    /// What is written.
     pub info: Text,
+    /// What is written there, if that begins with the mark.
+    pub object: Option<InfoObject>,
 }
 
 impl Manager {
+    /// Without the mark in its DMInfo.
     pub fn new(name: &str, number: u32) -> Self {
-        Self { name: name.into(), number, info: Text::default() }
+        Self { name: name.into(), number, info: Text::default(), object: None }
     }
 
-    /// StandardStMan and IncrementalStMan have a DMInfo of 8 bytes a column.
+    /// With the mark and an object in its DMInfo, if it is of one of the two
+    /// kinds; the object has this name.
+    pub fn with_object(mut self, name: impl Into<Text>) -> Self {
+        self.object = InfoObject::of_kind(&self.name.bytes, name);
+        self
+    }
+
+    pub fn is_standard(&self) -> bool {
+        self.name.bytes == b"StandardStMan"
+    }
+
+    /// StandardStMan and IncrementalStMan have a DMInfo that is judged.
     pub fn has_column_info(&self) -> bool {
         matches!(&self.name.bytes[..], b"StandardStMan" | b"IncrementalStMan")
+    }
+
+    /// Whether its DMInfo tells the set numbers and offsets of its columns.
+    pub fn tells_places(&self) -> bool {
+        let blocks = self.object.as_ref().map(|object| object.blocks.is_some());
+        self.has_column_info() && blocks.unwrap_or(true)
+    }
+
+    /// Writes the DMInfo: the object, or set numbers, then offsets.
+    pub fn write_info(&mut self, bound: &[&Column]) {
+        self.info = match &mut self.object {
+            Some(object) => {
+                object.bind(bound);
+                object.layout(0).bytes
+            }
+            None => {
+                let sets = bound.iter().map(|column| column.info.set);
+                let offsets = bound.iter().map(|column| column.info.offset);
+                sets.chain(offsets).flat_map(u32::to_be_bytes).collect()
+            }
+        }
+        .into();
+    }
+
+    /// Writes set numbers where offsets stand, and offsets where set numbers
+    /// stand.
+    pub fn exchange(&mut self) {
+        match &mut self.object {
+            Some(InfoObject { blocks: Some(blocks), .. }) => {
+                std::mem::swap(&mut blocks.offsets.elements, &mut blocks.sets.elements);
+                self.write_object();
+            }
+            Some(_) => {}
+            None => {
+                let half = self.info.bytes.len() / 2;
+                self.info.bytes.rotate_left(half);
+            }
+        }
+    }
+
+    /// Writes the object once more, after a change of it; its Blocks stay.
+    pub fn write_object(&mut self) {
+        if let Some(object) = &self.object {
+            self.info = object.layout(0).bytes.into();
+        }
     }
 }
 
@@ -357,20 +435,34 @@ impl Table {
         table
     }
 
-    /// Writes the DMInfo of StandardStMan and IncrementalStMan: set numbers,
-    /// then offsets, of the columns bound to each.
+    /// Writes the DMInfo of StandardStMan and IncrementalStMan, of the columns
+    /// bound to each.
     pub fn write_infos(&mut self) {
         let columns = &self.description.columns;
         for manager in &mut self.column_set.managers {
             if manager.has_column_info() {
-                let bound = || {
-                    let bound = columns.iter().filter(|c| c.info.manager == manager.number);
-                    bound.map(|column| &column.info)
-                };
-                let sets = bound().flat_map(|info| info.set.to_be_bytes());
-                let offsets = bound().flat_map(|info| info.offset.to_be_bytes());
-                manager.info = sets.chain(offsets).collect::<Vec<u8>>().into();
+                let bound = columns.iter().filter(|c| c.info.manager == manager.number);
+                manager.write_info(&bound.collect::<Vec<_>>());
             }
+        }
+    }
+
+    /// The object in the DMInfo of the manager at a position: where it begins
+    /// in the file, with its mark, and where its fields stand.
+    pub fn info_layout(&self, manager: usize) -> Option<(usize, Layout)> {
+        let object = self.managers()[manager].object.as_ref()?;
+        let start = self.layout().field(Part::Manager(manager), "info", 0).start + 4;
+        Some((start, object.layout(manager)))
+    }
+
+    /// Where what a refusal blames begins.
+    pub fn byte(&self, blame: Blame) -> usize {
+        match blame.part() {
+            Some(Part::Info(index) | Part::InfoOffsets(index) | Part::InfoSets(index)) => {
+                let (start, layout) = self.info_layout(index).expect("there is an object");
+                start + layout.byte(blame)
+            }
+            _ => self.layout().byte(blame),
         }
     }
 

@@ -37,7 +37,8 @@ fn torn_files<F: BucketFile>(subject: &Subject<F>) -> Vec<Vec<u8>> {
     let file = subject.file.encode();
     let size = subject.file.buckets().size as usize;
     let is_beside = |length: usize| (length + 1 - HEADER_ROOM) % size <= 2;
-    let is_asked = |length: &usize| *length < EVERY || length % STEP == 0 || is_beside(*length);
+    let is_asked =
+        |length: &usize| *length < EVERY || length.is_multiple_of(STEP) || is_beside(*length);
     (0..file.len()).filter(is_asked).map(|length| file[..length].to_vec()).collect()
 }
 

@@ -4,9 +4,11 @@
 use model::Refusal;
 use std::collections::{BTreeMap, BTreeSet};
 use writer::buckets::{BucketFile, Subject};
-use writer::fields::{changed_files, changes};
+use writer::fields::{changed_files, changed_infos, changes};
 use writer::incremental::{self, DATA_START, IncrementalFile};
+use writer::info::InfoObject;
 use writer::layout::{Blame, Layout, OBJECT_NAME, OBJECT_VERSION, Part};
+use writer::order::Order;
 use writer::rng::Rng;
 use writer::sets::tiny;
 use writer::standard::{self, StandardFile};
@@ -32,7 +34,15 @@ fn ends_early(byte: usize) -> Option<Refusal> {
 
 fn tables() -> Vec<Table> {
     let generated = (0..20).map(|number| generate::table(&mut Rng::new(81, number)));
-    [samples::small(), samples::arrays(), tiny()].into_iter().chain(generated).collect()
+    let samples = [samples::small(), samples::little(), samples::arrays(), tiny()];
+    samples.into_iter().chain(generated).collect()
+}
+
+/// Those with an object in a DMInfo.
+fn tables_with_objects() -> Vec<Table> {
+    let has_object = |table: &Table| table.managers().iter().any(|m| m.object.is_some());
+    let with_objects = [samples::little(), samples::arrays_with_objects()];
+    with_objects.into_iter().chain(tables()).filter(has_object).collect()
 }
 
 #[test]
@@ -65,6 +75,38 @@ fn assert_every_field_is_missed(
 fn of_every_field_of_a_table() {
     for layout in tables().iter().map(Table::layout) {
         assert_every_field_is_missed(&layout, describe, 0);
+    }
+}
+
+#[test]
+fn of_every_field_of_a_dm_info() {
+    for table in tables_with_objects() {
+        for index in 0..table.managers().len() {
+            let Some((start, layout)) = table.info_layout(index) else {
+                continue;
+            };
+            let with_info = |bytes: &[u8]| {
+                let mut table = table.clone();
+                table.managers_mut()[index].info = bytes.into();
+                describe(&table.encode())
+            };
+            let columns = table.bound_to(table.managers()[index].number);
+            // Of fewer than four bytes its length is judged, at its length.
+            let wrong_length = Some(Refusal::at(7, start - 4));
+            let short = |length| if length == 8 * columns { None } else { wrong_length };
+            for length in 0..4 {
+                assert_eq!(with_info(&layout.bytes[..length]), short(length));
+            }
+            for length in 4..layout.bytes.len() {
+                let byte = start + layout.byte(Blame::Torn(Part::Info(index), length));
+                assert_eq!(with_info(&layout.bytes[..length]), ends_early(byte), "{length}");
+            }
+            let read = |cut: &[u8]| match cut.len() {
+                0..4 => ends_early(start),
+                _ => with_info(cut),
+            };
+            assert_every_field_is_missed(&layout, read, start);
+        }
     }
 }
 
@@ -187,6 +229,15 @@ fn every_judged_field_of_a_table_is_blamed() {
             }
         }
     }
+    for table in [samples::little(), samples::arrays_with_objects()] {
+        for (change, start, changed) in changed_infos(&table) {
+            let itself = |r: &Refusal| r.byte == (start + change.field.start) as u64;
+            if let Some(refusal) = describe(&changed).filter(itself) {
+                let field = (kind(change.field.of), change.field.name);
+                blamed.entry(field).or_default().insert(refusal.number);
+            }
+        }
+    }
     let expected = [
         "Column base version: 3",
         "Column comment: 1",
@@ -212,6 +263,18 @@ fn every_judged_field_of_a_table_is_blamed() {
         "ColumnSet manager count: 4",
         "ColumnSet rows: 4 6",
         "ColumnSet version: 3",
+        "Info length: 1 7",
+        "Info name: 1",
+        "Info object name: 1 2",
+        "Info object version: 3",
+        "InfoOffsets count: 6",
+        "InfoOffsets length: 1 7",
+        "InfoOffsets object name: 1 2",
+        "InfoOffsets object version: 3",
+        "InfoSets count: 6",
+        "InfoSets length: 1 7",
+        "InfoSets object name: 1 2",
+        "InfoSets object version: 3",
         "InfoShape length: 1 7",
         "InfoShape object name: 1 2",
         "InfoShape object version: 3",
@@ -312,9 +375,8 @@ fn every_judged_field_of_a_file_is_blamed() {
 fn assert_table(change: impl FnOnce(&mut Table), number: u8, blame: Blame) {
     let mut table = samples::small();
     change(&mut table);
-    let layout = table.layout();
-    let expected = Refusal::at(number, layout.byte(blame));
-    assert_eq!(describe(&layout.bytes), Some(expected), "{blame:?}");
+    let expected = Refusal::at(number, table.byte(blame));
+    assert_eq!(describe(&table.encode()), Some(expected), "{blame:?}");
 }
 
 /// A table of one column after a change to it.
@@ -503,6 +565,74 @@ fn of_dm_info_its_length() {
         table.managers_mut().push(Manager { info, ..Manager::new("IncrementalStMan", 1) });
     };
     assert_table(second, 7, Part::Manager(1).field("info"));
+}
+
+/// The little endian small table after a change of the object in its DMInfo.
+fn assert_object(change: impl FnOnce(&mut InfoObject), number: u8, blame: Blame) {
+    let mut table = samples::little();
+    let manager = &mut table.managers_mut()[0];
+    change(manager.object.as_mut().unwrap());
+    manager.write_object();
+    let expected = Refusal::at(number, table.byte(blame));
+    assert_eq!(describe(&table.encode()), Some(expected), "{blame:?}");
+}
+
+#[test]
+fn of_an_object_in_dm_info_its_field() {
+    let (object, info) = (Part::Info(0), Part::Manager(0).field("info"));
+    assert_object(|object| object.header.name = "ISM".into(), 2, object.field(OBJECT_NAME));
+    for version in [1, 3] {
+        let blame = object.field(OBJECT_VERSION);
+        assert_object(|object| object.header.version = version, 3, blame);
+    }
+    assert_object(|object| object.name = of_length(4097), 4, object.field("name"));
+    assert_object(|object| object.header.stated = Some(99), 1, object.header());
+    // Left over: in the object its header, after it the length of DMInfo.
+    assert_object(|object| object.header.extra = vec![0; 4], 7, object.header());
+    assert_object(|object| object.after = vec![0], 7, info);
+    assert_object(|object| object.mark[3] = 0xBF, 7, info);
+    let counted = |count: [u32; 2]| {
+        move |object: &mut InfoObject| {
+            let blocks = object.blocks.as_mut().unwrap();
+            [blocks.offsets.count, blocks.sets.count] = count.map(Some);
+        }
+    };
+    assert_object(counted([2, 3]), 6, Part::InfoOffsets(0).field("count"));
+    assert_object(counted([3, 4]), 6, Part::InfoSets(0).field("count"));
+    assert_object(counted([4, 2]), 6, Part::InfoOffsets(0).field("count"));
+}
+
+#[test]
+fn of_another_byte_order_the_name() {
+    let other = |order: Order| Some(order.other());
+    for subject in samples::standard_files() {
+        let header = |file: &mut StandardFile| {
+            file.buckets.header.order = other(file.buckets.order);
+        };
+        assert_file(subject.clone(), header, 1, Blame::Byte(8));
+        let index = |file: &mut StandardFile| {
+            file.indices[0].header.order = other(file.buckets.order);
+        };
+        assert_file(subject.clone(), index, 1, Part::Index(0).field(OBJECT_NAME));
+        let space = |file: &mut StandardFile| {
+            file.indices[0].free_space.header.order = other(file.buckets.order);
+        };
+        assert_file(subject.clone(), space, 1, Part::FreeSpace(0).field(OBJECT_NAME));
+        let rows = |file: &mut StandardFile| {
+            file.indices[0].last_rows.elements_order = other(file.buckets.order);
+        };
+        assert_file(subject, rows, 11, Blame::Nothing);
+    }
+    for subject in samples::incremental_files() {
+        let header = |file: &mut IncrementalFile| {
+            file.buckets.header.order = other(file.buckets.order);
+        };
+        assert_file(subject.clone(), header, 1, Blame::Byte(8));
+        let block = |file: &mut IncrementalFile| {
+            file.index.buckets.header.order = other(file.buckets.order);
+        };
+        assert_file(subject, block, 1, Part::Numbers(0).field(OBJECT_NAME));
+    }
 }
 
 #[test]

@@ -157,6 +157,7 @@ fn every_standard_fault_is_reached() {
         "prefix before the offset",
         "free-space contents",
         "more free buckets",
+        "DMInfo of the other form",
     ];
     assert_reached(&standard::faults::faults(), standard::generate::subject, &harmless);
 }

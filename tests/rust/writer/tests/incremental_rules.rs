@@ -37,8 +37,7 @@ fn subject(endianness: u32) -> Small {
         columns: columns.clone(),
     };
     let buckets = Buckets::new("IncrementalStMan", 5, endianness, 79, 4);
-    let mut file =
-        IncrementalFile::new(buckets, endianness == 1, vec![0, 4, 7], vec![bucket(2), bucket(0)]);
+    let mut file = IncrementalFile::new(buckets, vec![0, 4, 7], vec![bucket(2), bucket(0)]);
     file.buckets.free = vec![3];
     Subject { table, number: 1, file }
 }
@@ -82,7 +81,7 @@ fn set_rows(subject: &mut Small, rows: u32) {
 fn samples_are_accepted() {
     let subject = samples::arrays_incremental();
     let (table, file) = (subject.table.encode(), subject.file.encode());
-    assert_eq!(table, samples::all()[1].1);
+    assert_eq!(table, samples::all()[2].1);
     assert_eq!(check(&table, 1, &file, &mut []), Ok(Kind::Incremental));
     let times: Vec<f64> = (0..20)
         .map(|row| view(&table, &file, row, 0, &mut []).unwrap().try_into().unwrap())

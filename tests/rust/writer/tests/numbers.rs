@@ -31,8 +31,8 @@ fn every_number_is_what_was_written() {
             assert!(start > before);
             before = start;
             let manager = managers.iter().find(|manager| manager.number == column.info.manager);
-            let has_info = manager.is_some_and(|manager| manager.has_column_info());
-            let info = if has_info { [column.info.set, column.info.offset] } else { [0; 2] };
+            let told = manager.is_some_and(|manager| manager.tells_places());
+            let info = if told { [column.info.set, column.info.offset] } else { [0; 2] };
             let expected = [
                 column.data_type as u64,
                 column.is_array().into(),

@@ -48,8 +48,9 @@ fn samples_are_listed() {
         listings[0],
         "rows 7 columns 3\n0 SCAN Int 1 0\n1 FLAG Bool 1 0\n2 TIME double 1 0\n"
     );
+    assert_eq!(listings[1], listings[0]); // the same little endian
     assert_eq!(
-        listings[1],
+        listings[2],
         "rows 20 columns 15\n\
          0 TIME double 1 1\n\
          1 ANTENNA1 Int 1 0\n\
@@ -68,7 +69,7 @@ fn samples_are_listed() {
          14 CORR_PRODUCT Int 8 4\n"
     );
     // Too long; no mark; Table passes the file's end.
-    assert_eq!(listings[2..], ["refused 4 65536\n", "refused 1 0\n", "refused 1 4\n"]);
+    assert_eq!(listings[3..], ["refused 4 65536\n", "refused 1 0\n", "refused 1 4\n"]);
 }
 
 #[test]

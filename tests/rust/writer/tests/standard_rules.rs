@@ -18,16 +18,19 @@ fn refusal(subject: &Small) -> u8 {
     answer.err().map_or(0, |refusal| refusal.number)
 }
 
-/// The refusal number of the small file after a change.
-fn small(change: impl FnOnce(&mut Small)) -> u8 {
-    let mut subject = samples::small_file();
-    change(&mut subject);
-    subject.table.write_infos();
-    refusal(&subject)
+/// The refusal number of the small file after a change; in both byte orders.
+fn small(change: impl Fn(&mut Small)) -> u8 {
+    let [big, little] = [samples::small_file(), samples::little_file()].map(|mut subject| {
+        change(&mut subject);
+        subject.table.write_infos();
+        refusal(&subject)
+    });
+    assert_eq!(big, little);
+    big
 }
 
 /// A change of the only SSMIndex.
-fn index(change: impl FnOnce(&mut Index)) -> u8 {
+fn index(change: impl Fn(&mut Index)) -> u8 {
     small(|subject| change(&mut subject.file.indices[0]))
 }
 
@@ -51,9 +54,28 @@ fn samples_are_accepted() {
         .collect();
     assert_eq!(flags, [false, false, true, false, false, true, false]);
 
+    // The little endian one has the same values in the same places.
+    let big = samples::small_file();
+    let little = samples::little_file();
+    let (big_table, big_file) = (big.table.encode(), big.file.encode());
+    let (table, file) = (little.table.encode(), little.file.encode());
+    assert_eq!(table, samples::all()[1].1);
+    assert_eq!(check(&table, 0, &file, room), Ok(Kind::Standard));
+    for row in 0..7 {
+        for position in [0, 2] {
+            let cell = view(&table, &file, row, position, room).unwrap();
+            let turned: Vec<u8> = cell.iter().rev().copied().collect();
+            assert_eq!(view(&big_table, &big_file, row, position, room), Ok(&turned[..]));
+        }
+        let flag = place(&table, &file, row, 1, room).unwrap();
+        assert_eq!(place(&big_table, &big_file, row, 1, room), Ok(flag));
+        let byte = flag.first_bit as usize / 8;
+        assert_eq!(file[byte], big_file[byte]);
+    }
+
     let subject = samples::arrays_standard();
     let (table, file) = (subject.table.encode(), subject.file.encode());
-    assert_eq!(table, samples::all()[1].1);
+    assert_eq!(table, samples::all()[2].1);
     let room = &mut [0; 252];
     assert_eq!(check(&table, 0, &file, room), Ok(Kind::Standard));
     assert_eq!(view(&table, &file, 3, 11, room).unwrap(), b"RT3\0\0\0\0\0\0\0\0\0\0\0\0\0");
@@ -91,7 +113,7 @@ fn header_object() {
 fn header_fields() {
     let header = |change: fn(&mut StandardFile)| small(|subject| change(&mut subject.file));
     assert_eq!(header(|file| file.buckets.big_endian = 2), 5);
-    assert_eq!(header(|file| file.buckets.big_endian = 0), 6);
+    assert_eq!(header(|file| file.buckets.big_endian ^= 1), 6);
     assert_eq!(header(|file| file.buckets.stated_size = Some(15)), 4);
     assert_eq!(header(|file| file.buckets.stated_size = Some(1_048_577)), 4);
     assert_eq!(header(|file| file.buckets.stated_size = Some(1_048_576)), 1);
@@ -290,7 +312,7 @@ fn rows_and_buckets() {
     let second = |index: Index| {
         small(|subject| {
             subject.file.buckets.count = 8;
-            subject.file.indices.push(index);
+            subject.file.indices.push(index.clone());
         })
     };
     assert_eq!(second(Index::new(8_388_608, 0, &[(6, 5)])), 0);

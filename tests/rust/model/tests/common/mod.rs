@@ -99,10 +99,21 @@ pub fn table(rows: u32, columns: &[Column]) -> Vec<u8> {
 
 /// The same of a manager of another kind.
 pub fn table_of(manager: &str, rows: u32, columns: &[Column]) -> Vec<u8> {
-    let descriptions: Vec<Vec<u8>> = columns.iter().map(Column::description).collect();
-    let infos: Vec<Vec<u8>> = columns.iter().map(Column::info).collect();
     let sets: Vec<u32> = columns.iter().map(|column| column.set).collect();
     let offsets: Vec<u32> = columns.iter().map(|column| column.offset).collect();
+    table_with(1, manager, uints(&[sets, offsets].concat()), rows, columns)
+}
+
+/// The same of this endianness, with these bytes in its DMInfo.
+pub fn table_with(
+    endianness: u32,
+    manager: &str,
+    info: Vec<u8>,
+    rows: u32,
+    columns: &[Column],
+) -> Vec<u8> {
+    let descriptions: Vec<Vec<u8>> = columns.iter().map(Column::description).collect();
+    let infos: Vec<Vec<u8>> = columns.iter().map(Column::info).collect();
     let description = object(
         "TableDesc",
         2,
@@ -124,12 +135,11 @@ pub fn table_of(manager: &str, rows: u32, columns: &[Column]) -> Vec<u8> {
         string(manager),
         uint(0),
         infos.concat(),
-        uint(8 * columns.len() as u32), // DMInfo: the sets, then the offsets
-        uints(&sets),
-        uints(&offsets),
+        uint(info.len() as u32), // DMInfo
+        info,
     ]
     .concat();
-    let fields = [uint(rows), uint(1), string("PlainTable"), description, column_set];
+    let fields = [uint(rows), uint(endianness), string("PlainTable"), description, column_set];
     [vec![0xBE; 4], object("Table", 2, &fields)].concat()
 }
 

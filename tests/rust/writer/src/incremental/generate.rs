@@ -73,7 +73,7 @@ fn with_rows(rng: &mut Rng, table: &Table, number: u32, first_rows: Vec<u32>) ->
         let count = rng.within(1..=40);
         buckets.trailing = rng.bytes(count);
     }
-    let mut file = IncrementalFile::new(buckets, table.endianness == 1, first_rows, data);
+    let mut file = IncrementalFile::new(buckets, first_rows, data);
     file.unique_column = rng.pick(&[0, 1, 7, u32::MAX]);
     file
 }
