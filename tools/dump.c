@@ -61,13 +61,22 @@ static bool is_in_text(struct bytes table, struct bytes file, uint64_t sequence)
     return hv_check(table.at, table.len, file.at, file.len, sequence, NULL, 0, NULL, 0) == HV_REFUSED_ROOM;
 }
 
+/* The byte order of a header, and so of the places of its index text, is the table's. */
+static bool is_big_endian(struct bytes table)
+{
+    uint64_t description[HV_DESCRIPTION_LEN];
+
+    hv_description(table.at, table.len, description, HV_DESCRIPTION_LEN);
+    return description[HV_DESCRIPTION_BIG_ENDIAN] != 0;
+}
+
 struct dump dump_of_file(struct bytes table, struct bytes file, uint64_t sequence, uint64_t byte)
 {
     struct index_text text;
 
     if (!is_in_text(table, file, sequence))
         return dump_of_bytes(file, byte);
-    text = index_text_of(file, true); /* as every header is: RULES.md 5 */
+    text = index_text_of(file, is_big_endian(table));
     return dump_of_text(&text, byte);
 }
 

@@ -3,7 +3,7 @@
 #include "files.h"
 #include "helvidrane.h"
 
-/* Where the header's numbers begin. All before them have the same length in every header that is right. */
+/* Where the header's numbers begin, in either byte order: all before them has the same length in every header that is right. */
 enum { BUCKET_SIZE_AT = 30, FIRST_INDEX_BUCKET_AT = 54, INDEX_OFFSET_AT = 58, INDEX_LENGTH_AT = 66 };
 
 /* The number of the next bucket, twice, at the start of a bucket. */
@@ -54,7 +54,7 @@ bool index_text_place(const struct index_text *text, uint64_t byte, uint64_t *pl
     if (text->offset > 0) {
         *place = bucket_start(text, bucket) + text->offset + byte;
     } else {
-        /* Links are big endian, whatever the header is. */
+        /* Links are big endian, also where the header is not. */
         for (; byte >= each; byte -= each)
             bucket = number_at(text->file, bucket_start(text, bucket), true);
         *place = bucket_start(text, bucket) + LINKS_LEN + byte;

@@ -16,7 +16,10 @@ struct index_text {
     uint64_t offset; /* where in that bucket, which holds it all; or 0, and it goes on from bucket to bucket */
 };
 
-/* Of a file whose header is right, with its numbers in a byte order. Whatever the bytes are, none outside the file is read. */
+/*
+ * Of a file whose header is right, with its numbers in the table's byte order. Whatever the bytes and the order are, no byte outside
+ * the file is read.
+ */
 struct index_text index_text_of(struct bytes file, bool is_big);
 
 /* Where a byte of the text stands in the file; false where there is no such byte. */

@@ -1,7 +1,7 @@
 /*
- * Asks every question of include/helvidrane.h: of files on the samples `small` and `arrays`, accepted, refused with each number
- * and the byte, with `out` shorter and longer than the answer, with plans that are too short, and with null pointers to runs of
- * 0 elements; and of type numbers. The answers are those of RULES.md and of the independent model. It is C and C++.
+ * Asks every question of include/helvidrane.h: of files on the samples `small`, `little` and `arrays`, accepted, refused with each
+ * number and the byte, with `out` shorter and longer than the answer, with plans that are too short, and with null pointers to runs
+ * of 0 elements; and of type numbers. The answers are those of RULES.md and of the independent model. It is C and C++.
  *
  * questions SAMPLES: exits with 1 at the first difference.
  */
@@ -217,11 +217,9 @@ static void set_plan(const uint64_t *values)
         plan[i] = UINT64_MAX - i;
 }
 
-/* The small file (RULES.md 11.1): buckets of 64 bytes, the index text of 134 bytes in buckets 1, 3 and 4. */
-static void load_small(const char *samples)
+/* The file has buckets of 64 bytes, and the index text of 134 bytes in buckets 1, 3 and 4. */
+static void take_text(void)
 {
-    read_file(&table, samples, "small", "table.dat");
-    read_file(&file, samples, "small", "table.f0");
     memcpy(text.at, file.at + 512 + 1 * 64 + 8, 56);
     memcpy(text.at + 56, file.at + 512 + 3 * 64 + 8, 56);
     memcpy(text.at + 112, file.at + 512 + 4 * 64 + 8, 22);
@@ -229,9 +227,17 @@ static void load_small(const char *samples)
     room_len = 134;
 }
 
-static void ask_of_table(void)
+/* The small file (RULES.md 11.1): `small` is big endian, `little` little endian, with the same places. */
+static void load(const char *samples, const char *sample)
 {
-    const uint64_t description[] = {7, 1, 3, 1, 0};
+    read_file(&table, samples, sample, "table.dat");
+    read_file(&file, samples, sample, "table.f0");
+    take_text();
+}
+
+static void ask_of_table(uint64_t is_big)
+{
+    const uint64_t description[] = {7, is_big, 3, 1, 0};
     const uint64_t manager[] = {0, HV_STANDARD, 829, 13, 0};
     const char *const names[] = {"SCAN", "FLAG", "TIME"};
     const uint64_t types[] = {HV_TYPE_INT, HV_TYPE_BOOL, HV_TYPE_DOUBLE};
@@ -360,6 +366,22 @@ static void ask_of_cells(void)
     room_len = 134;
 }
 
+/* The bytes of a cell of `little` are those of `small`, the last first. */
+static void ask_of_turned_cells(const char *samples)
+{
+    static struct bytes small;
+    size_t i;
+
+    read_file(&small, samples, "small", "table.f0");
+    for (row = 0; row < 7; row++)
+        for (number = 0; number < 3; number += 2) {
+            HOLD(ask(VIEW, HV_VIEW_LEN) == HV_ACCEPTED, __LINE__);
+            HOLD(out[HV_VIEW_LENGTH] == (number == 0 ? 4 : 8), __LINE__);
+            for (i = 0; i < out[HV_VIEW_LENGTH]; i++)
+                HOLD(file.at[out[HV_VIEW_START] + i] == small.at[out[HV_VIEW_START] + out[HV_VIEW_LENGTH] - 1 - i], __LINE__);
+        }
+}
+
 /* The next questions are about SCAN of row 0 in the small table. */
 static void set_scan(void)
 {
@@ -400,6 +422,22 @@ struct fault {
     enum hv_number refusal;
     uint64_t field;
 };
+
+#define REFUSED_EACH(bytes, first, faults) refused_each(bytes, first, faults, sizeof faults / sizeof *faults, __LINE__)
+
+static void refused_each(struct bytes *bytes, enum question first, const struct fault *faults, size_t count, int line)
+{
+    size_t i;
+
+    room_len = 200;
+    for (i = 0; i < count; i++) {
+        uint8_t good = bytes->at[faults[i].at];
+        HOLD(good != faults[i].byte, line);
+        bytes->at[faults[i].at] = faults[i].byte;
+        refused_from(first, faults[i].refusal, faults[i].field, line);
+        bytes->at[faults[i].at] = good;
+    }
+}
 
 /* Of the index text, byte 0 is byte 584 of the file, 56 is byte 712, and 112 is byte 776. */
 static void ask_of_faults(void)
@@ -442,27 +480,109 @@ static void ask_of_faults(void)
         {759, 2, HV_REFUSED_MAP, 0},          /* the second last row: 518 */
         {785, 2, HV_REFUSED_VERSION, 118},    /* the second Block's version */
     };
-    size_t i, before;
 
-    room_len = 200;
-    for (i = 0; i < sizeof in_table / sizeof *in_table; i++) {
-        uint8_t good = table.at[in_table[i].at];
-        table.at[in_table[i].at] = in_table[i].byte;
-        refused_from(DESCRIPTION, in_table[i].refusal, in_table[i].field, __LINE__);
-        table.at[in_table[i].at] = good;
-    }
-    for (i = 0; i < sizeof in_file / sizeof *in_file; i++) {
-        uint8_t good = file.at[in_file[i].at];
-        file.at[in_file[i].at] = in_file[i].byte;
-        refused_from(CHECK, in_file[i].refusal, in_file[i].field, __LINE__);
-        file.at[in_file[i].at] = good;
-    }
+    REFUSED_EACH(&table, DESCRIPTION, in_table);
+    REFUSED_EACH(&file, CHECK, in_file);
 
     /* Case G: TIME at 16, in FLAG's extent. */
     table.at[0x3a5] = 16;
     refused_from(CHECK, HV_REFUSED_MAP, 0, __LINE__);
     table.at[0x3a5] = 17;
+}
 
+/*
+ * The same of `little`: table.dat is big endian, and its DMInfo is an object SSM; in table.f0 numbers have their lowest byte first.
+ * Where DMInfo's fields begin: its length at 906; the mark at 910; SSM's length, name and version at 914, 918 and 925; the manager's
+ * name at 929; length, name, version and count of the Block of offsets at 946, 950, 959 and 963, the offsets at 967, 971 and 975;
+ * those of the Block of set numbers at 979, 983, 992 and 996, the numbers at 1000, 1004 and 1008. SSM, Table and the file end at
+ * 1012.
+ */
+static void ask_of_little_faults(void)
+{
+    static const struct fault in_table[] = {
+        {0x1c, 2, HV_REFUSED_VALUE, 0x19},   /* the endianness */
+        {0x19, 1, HV_REFUSED_VALUE, 0x19},   /* it is big endian itself */
+        {909, 103, HV_REFUSED_END, 906},     /* DMInfo past Table's end: its length */
+        {909, 101, HV_REFUSED_END, 914},     /* SSM past DMInfo's end: its header */
+        {909, 18, HV_REFUSED_END, 925},      /* SSM's version does not fit into DMInfo */
+        {909, 14, HV_REFUSED_END, 918},      /* nor its name */
+        {909, 4, HV_REFUSED_END, 914},       /* DMInfo is the mark alone */
+        {909, 3, HV_REFUSED_LENGTH, 906},    /* it has three bytes of it: no object, and 24 are needed */
+        {909, 0, HV_REFUSED_LENGTH, 906},    /* it is empty */
+        {913, 0xbf, HV_REFUSED_LENGTH, 906}, /* another mark: no object, and 102 bytes are not 24 */
+        {917, 99, HV_REFUSED_END, 914},      /* SSM's length: it ends behind DMInfo */
+        {917, 97, HV_REFUSED_END, 979},      /* the second Block ends behind it */
+        {917, 15, HV_REFUSED_END, 929},      /* the name does not fit into it */
+        {917, 14, HV_REFUSED_LENGTH, 914},   /* its header does not */
+        {922, 'I', HV_REFUSED_NAME, 918},    /* ISM is the other manager's */
+        {921, 4, HV_REFUSED_NAME, 918},      /* the length of its name */
+        {928, 1, HV_REFUSED_VERSION, 925},   /* SSM's version */
+        {928, 3, HV_REFUSED_VERSION, 925},   /* and that of ISM */
+        {932, 80, HV_REFUSED_END, 929},      /* the length of the manager's name: 79 bytes are left */
+        {932, 79, HV_REFUSED_END, 1012},     /* and now nothing for a Block */
+        {949, 67, HV_REFUSED_END, 946},      /* the Block of offsets ends behind SSM */
+        {949, 34, HV_REFUSED_LENGTH, 946},   /* it has a byte left over */
+        {949, 32, HV_REFUSED_END, 975},      /* its last offset does not fit */
+        {949, 20, HV_REFUSED_END, 963},      /* its count does not */
+        {949, 16, HV_REFUSED_LENGTH, 946},   /* its header does not */
+        {954, 'C', HV_REFUSED_NAME, 950},    /* its name */
+        {962, 2, HV_REFUSED_VERSION, 959},   /* its version */
+        {966, 2, HV_REFUSED_FACTS, 963},     /* 2 offsets for 3 columns */
+        {966, 4, HV_REFUSED_FACTS, 963},     /* 4 of them, which would not fit: the count comes first */
+        {963, 0xff, HV_REFUSED_FACTS, 963},  /* more than any file has */
+        {982, 34, HV_REFUSED_END, 979},      /* the Block of set numbers ends behind SSM */
+        {982, 32, HV_REFUSED_END, 1008},     /* its last number does not fit */
+        {987, 'C', HV_REFUSED_NAME, 983},    /* its name */
+        {995, 0, HV_REFUSED_VERSION, 992},   /* its version */
+        {999, 2, HV_REFUSED_FACTS, 996},     /* 2 set numbers for 3 columns */
+        {999, 4, HV_REFUSED_FACTS, 996},     /* 4 of them */
+    };
+    static const struct fault of_columns[] = {
+        {978, 16, HV_REFUSED_MAP, 0},   /* case G: TIME at 16, in FLAG's extent; offsets come first */
+        {978, 33, HV_REFUSED_MAP, 0},   /* case J: TIME at 33 */
+        {1011, 1, HV_REFUSED_MAP, 0},   /* TIME in a second set, which there is not */
+        {1000, 1, HV_REFUSED_MAP, 0},   /* SCAN in set 16,777,216: table.dat is big endian */
+    };
+    static const struct fault in_file[] = {
+        {0, 0, HV_REFUSED_NAME, 0},          /* the mark */
+        {0x04, 71, HV_REFUSED_LENGTH, 4},    /* the header's length */
+        {0x07, 1, HV_REFUSED_END, 4},        /* its highest byte: it ends behind the 512 bytes */
+        {0x08, 14, HV_REFUSED_NAME, 8},      /* the length of its name */
+        {0x0b, 1, HV_REFUSED_END, 8},        /* its highest byte */
+        {0x19, 9, HV_REFUSED_VERSION, 0x19}, /* the header's version */
+        {0x1c, 3, HV_REFUSED_VERSION, 0x19}, /* its highest byte */
+        {0x1d, 2, HV_REFUSED_VALUE, 0x1d},   /* the endianness */
+        {0x1d, 1, HV_REFUSED_FACTS, 0x1d},   /* the other endianness */
+        {0x1e, 15, HV_REFUSED_RANGE, 0x1e},  /* the bucket size */
+        {0x21, 1, HV_REFUSED_RANGE, 0x1e},   /* its highest byte */
+        {0x22, 6, HV_REFUSED_END, 832},      /* the number of buckets: the file's end */
+        {0x32, 2, HV_REFUSED_CHAIN, 0},      /* case I: index number 2 for three links */
+        {0x3a, 7, HV_REFUSED_RANGE, 0x3a},   /* the offset of the index */
+        {0x42, 135, HV_REFUSED_LENGTH, 134}, /* the index length: the first byte of the text that is left over */
+        {0x42, 133, HV_REFUSED_END, 4},      /* SSMIndex is past the end of the text: its header */
+        {0x46, 2, HV_REFUSED_END, 134},      /* the number of indices: there is no second mark */
+        {584, 0, HV_REFUSED_NAME, 0},        /* SSMIndex's mark: byte 0 of the text */
+        {604, 2, HV_REFUSED_VERSION, 20},    /* its version */
+        {612, 0, HV_REFUSED_RANGE, 28},      /* rows per bucket */
+        {620, 41, HV_REFUSED_LENGTH, 36},    /* the map's length */
+        {713, 'N', HV_REFUSED_NAME, 40},     /* the map's name, which begins in the bucket before */
+        {749, 3, HV_REFUSED_FACTS, 93},      /* the first Block's count */
+        {752, 2, HV_REFUSED_FACTS, 93},      /* its highest byte */
+        {758, 2, HV_REFUSED_MAP, 0},         /* the second last row: 518 */
+        {782, 2, HV_REFUSED_VERSION, 118},   /* the second Block's version */
+        {579, 0, HV_REFUSED_CHAIN, 0},       /* a link: the lowest byte is its last in every file */
+    };
+
+    REFUSED_EACH(&table, DESCRIPTION, in_table);
+    REFUSED_EACH(&table, CHECK, of_columns);
+    REFUSED_EACH(&file, CHECK, in_file);
+}
+
+static void ask_of_cuts(void)
+{
+    size_t i, before;
+
+    room_len = 200;
     /* Cut: the first field of the header that is not there, or the header where only its end is missing, or the file's end. */
     before = file.len;
     for (i = 0; i < before; i++) {
@@ -485,9 +605,9 @@ static void ask_of_faults(void)
 }
 
 /* Bytes after the Table object are not read, but they count. */
-static void ask_of_long_table(void)
+static void ask_of_long_table(uint64_t is_big)
 {
-    const uint64_t description[] = {7, 1, 3, 1, 0};
+    const uint64_t description[] = {7, is_big, 3, 1, 0};
     size_t before = table.len;
 
     table.len = 65536;
@@ -497,6 +617,110 @@ static void ask_of_long_table(void)
     table.len = 65600;
     refused_from(DESCRIPTION, HV_REFUSED_RANGE, 65536, __LINE__);
     table.len = before;
+}
+
+/* The place of TIME in row 5, case A, after a check that accepts. */
+static void accepted_time(int line)
+{
+    const uint64_t bucket_size[] = {64, 0};
+    const uint64_t place[] = {4296, 64, 1, 2, 0};
+
+    number = 0;
+    accepted(CHECK, bucket_size, HV_CHECK_LEN, line);
+    row = 5;
+    number = 2;
+    accepted(PLACE, place, HV_PLACE_LEN, line);
+}
+
+/* The table's endianness alone decides the byte order of header and index. Links and the form of DMInfo do not hang on it. */
+static void ask_of_byte_orders(const char *samples)
+{
+    /* DMInfo's old form in a little endian table, and the new one in a big endian table. */
+    load(samples, "little");
+    read_file(&table, samples, "small", "table.dat");
+    table.at[0x1c] = 0;
+    accepted_time(__LINE__);
+    load(samples, "small");
+    read_file(&table, samples, "little", "table.dat");
+    table.at[0x1c] = 1;
+    accepted_time(__LINE__);
+
+    /* A header in the other order, as a little endian file had it up to 1.3.0: its name has a length that is too large. */
+    load(samples, "little");
+    read_file(&file, samples, "small", "table.f0");
+    file.at[0x1d] = 0;
+    refused_from(CHECK, HV_REFUSED_END, 8, __LINE__);
+    load(samples, "small");
+    read_file(&file, samples, "little", "table.f0");
+    file.at[0x1d] = 1;
+    refused_from(CHECK, HV_REFUSED_END, 8, __LINE__);
+
+    /* Index text in the other order: SSMIndex's length and that of its name, in the first bucket of the text. */
+    load(samples, "little");
+    memcpy(file.at + 588, "\0\0\0\x82\0\0\0\x08", 8);
+    refused_from(CHECK, HV_REFUSED_END, 8, __LINE__);
+
+    /* Links of the index in the other order. */
+    load(samples, "little");
+    memcpy(file.at + 576, "\3\0\0\0\3\0\0\0", 8);
+    refused_from(CHECK, HV_REFUSED_CHAIN, 0, __LINE__);
+
+    /* Two buckets more, 5 and 6, which are free: their numbers in the header are little endian, the link is not. */
+    load(samples, "little");
+    memset(file.at + 832, 0, 128);
+    file.len = 960;
+    file.at[0x22] = 7;
+    memcpy(file.at + 0x2a, "\2\0\0\0\5\0\0\0", 8);
+    memcpy(file.at + 832, "\0\0\0\6", 4);
+    memcpy(file.at + 896, "\xff\xff\xff\xff", 4);
+    accepted_time(__LINE__);
+    memcpy(file.at + 832, "\6\0\0\0", 4);
+    refused_from(CHECK, HV_REFUSED_CHAIN, 0, __LINE__);
+}
+
+/* Adds to a number of table.dat, which has 2 bytes at most. */
+static void add_at(size_t at, size_t more)
+{
+    size_t sum = (size_t)table.at[at + 2] * 256 + table.at[at + 3] + more;
+
+    table.at[at + 2] = (uint8_t)(sum / 256);
+    table.at[at + 3] = (uint8_t)(sum % 256);
+}
+
+/* The manager's name in DMInfo of `little` has another length. */
+static void load_named(const char *samples, size_t len)
+{
+    load(samples, "little");
+    memmove(table.at + 933 + len, table.at + 946, table.len - 946);
+    memset(table.at + 933, 'n', len);
+    table.len = table.len - 13 + len;
+    add_at(4, len - 13);
+    add_at(906, len - 13);
+    add_at(914, len - 13);
+    add_at(929, len - 13);
+}
+
+/* Bytes that are left over in `little`, and the length of a name that is not judged otherwise. */
+static void ask_of_info(const char *samples)
+{
+    static const size_t lens[] = {0, 1, 12, 14, 16, 4096};
+    size_t i;
+
+    for (i = 0; i < sizeof lens / sizeof *lens; i++) {
+        load_named(samples, lens[i]);
+        accepted_time(__LINE__);
+    }
+    load_named(samples, 4097);
+    refused_from(DESCRIPTION, HV_REFUSED_RANGE, 929, __LINE__);
+
+    /* A byte of DMInfo behind SSM, and one of SSM behind its last field. */
+    load(samples, "little");
+    table.len += 1;
+    add_at(4, 1);
+    add_at(906, 1);
+    refused_from(DESCRIPTION, HV_REFUSED_LENGTH, 906, __LINE__);
+    add_at(914, 1);
+    refused_from(DESCRIPTION, HV_REFUSED_LENGTH, 914, __LINE__);
 }
 
 /* Number and byte of every question over table.f1 of `arrays`, by SCAN_NUMBER, which its manager keeps. */
@@ -511,20 +735,85 @@ static void blamed_incremental(enum hv_number refusal, uint64_t byte, int line)
     }
 }
 
+/*
+ * DMInfo of IncrementalStMan in `arrays`: 24 bytes, for three columns, of which SCAN_NUMBER is the second. Its length is at 4328; in
+ * the old form set numbers begin at 4332 and offsets at 4344; as an object it has the mark at 4332, length, name and version of ISM
+ * at 4336, 4340 and 4347, the manager's name, of one byte, at 4351. At 4356 and 4360 stand the lengths of two that are empty.
+ */
+static void ask_of_incremental_info(const char *samples)
+{
+    static const struct fault faults[] = {
+        {4331, 25, HV_REFUSED_LENGTH, 4328},  /* DMInfo has a byte behind ISM: its length */
+        {4331, 23, HV_REFUSED_END, 4336},     /* ISM ends behind it: its header */
+        {4331, 3, HV_REFUSED_LENGTH, 4328},   /* three bytes of the mark: no object, and 24 are needed */
+        {4339, 21, HV_REFUSED_END, 4336},     /* ISM's length: it ends behind DMInfo */
+        {4339, 19, HV_REFUSED_END, 4351},     /* the name does not fit into it */
+        {4339, 14, HV_REFUSED_LENGTH, 4336},  /* its header does not */
+        {4344, 'S', HV_REFUSED_NAME, 4340},   /* SSM is the other manager's */
+        {4350, 2, HV_REFUSED_VERSION, 4347},  /* and so is version 2 */
+        {4350, 4, HV_REFUSED_VERSION, 4347},
+        {4354, 2, HV_REFUSED_END, 4351},      /* the name's length */
+        {4354, 0, HV_REFUSED_LENGTH, 4336},   /* and now ISM has a byte left over */
+    };
+    const uint64_t place[] = {6368, 32, 0, 0, 0};
+    size_t i;
+
+    read_file(&table, samples, "arrays", "table.dat");
+    read_file(&file, samples, "arrays", "table.f1");
+    text.len = 0;
+    room_len = 0;
+    row = 7;
+    number = 4;
+
+    /* The numbers of the old form are told, and not used. */
+    memcpy(table.at + 4336, "\0\0\0\x05", 4);
+    memcpy(table.at + 4348, "\0\0\1\x02", 4);
+    HOLD(ask(COLUMN, HV_COLUMN_LEN) == HV_ACCEPTED, __LINE__);
+    HOLD(out[HV_COLUMN_SET] == 5 && out[HV_COLUMN_OFFSET] == 258, __LINE__);
+    ACCEPTED(PLACE, place);
+
+    /* The object has none. */
+    memcpy(table.at + 4332, "\xbe\xbe\xbe\xbe\0\0\0\x14\0\0\0\3ISM\0\0\0\3\0\0\0\1n", 24);
+    HOLD(ask(COLUMN, HV_COLUMN_LEN) == HV_ACCEPTED, __LINE__);
+    HOLD(out[HV_COLUMN_SET] == 0 && out[HV_COLUMN_OFFSET] == 0, __LINE__);
+    ACCEPTED(PLACE, place);
+    REFUSED_EACH(&table, DESCRIPTION, faults);
+
+    /* Without the mark these are three set numbers and three offsets. */
+    table.at[4335] = 0xbf;
+    row = 7;
+    number = 4;
+    HOLD(ask(COLUMN, HV_COLUMN_LEN) == HV_ACCEPTED, __LINE__);
+    HOLD(out[HV_COLUMN_SET] == 20 && out[HV_COLUMN_OFFSET] == 768, __LINE__);
+    ACCEPTED(PLACE, place);
+
+    /* DMInfo of another kind is not looked at, the mark or not. */
+    for (i = 0; i < 2; i++) {
+        read_file(&table, samples, "arrays", "table.dat");
+        memcpy(table.at + 4356, "\0\0\0\4\xbe\xbe\xbe\xbe\0\0\0\0", 12);
+        table.at[4363] -= (uint8_t)i;
+        table.len = 4368;
+        add_at(4, 4);
+        ACCEPTED(PLACE, place);
+    }
+}
+
 /* Little endian, with four managers: table.f1 is IncrementalStMan's. */
 static void ask_of_incremental(const char *samples)
 {
     static const struct fault faults[] = {
         {0x20, 1, HV_REFUSED_FACTS, 0x20},      /* the endianness */
-        {0x24, 15, HV_REFUSED_RANGE, 0x21},     /* the bucket size */
-        {0x28, 4, HV_REFUSED_END, 986},         /* the number of buckets: the file's end */
+        {0x21, 15, HV_REFUSED_RANGE, 0x21},     /* the bucket size: the lowest byte is the first */
+        {0x24, 1, HV_REFUSED_RANGE, 0x21},      /* its highest byte */
+        {0x25, 4, HV_REFUSED_END, 986},         /* the number of buckets: the file's end */
         {0x383, 0, HV_REFUSED_NAME, 0x380},     /* ISMIndex's mark */
-        {0x387, 87, HV_REFUSED_END, 0x384},     /* ISMIndex past the end of the file: its header */
-        {0x397, 2, HV_REFUSED_VERSION, 0x394},  /* its version */
-        {0x3b0, 4, HV_REFUSED_FACTS, 0x3ad},    /* the count of first rows */
-        {0x39f, 34, HV_REFUSED_LENGTH, 0x39c},  /* the length of the first Block: a byte is left over */
-        {0x3c0, 30, HV_REFUSED_END, 0x3bd},     /* that of the second: it is past the end of ISMIndex */
-        {0x3c0, 28, HV_REFUSED_END, 0x3d6},     /* and now its last element does not fit */
+        {0x384, 87, HV_REFUSED_END, 0x384},     /* ISMIndex past the end of the file: its header */
+        {0x394, 2, HV_REFUSED_VERSION, 0x394},  /* its version */
+        {0x3ad, 4, HV_REFUSED_FACTS, 0x3ad},    /* the count of first rows */
+        {0x39c, 34, HV_REFUSED_LENGTH, 0x39c},  /* the length of the first Block: a byte is left over */
+        {0x3bd, 30, HV_REFUSED_END, 0x3bd},     /* that of the second: it is past the end of ISMIndex */
+        {0x3bd, 28, HV_REFUSED_END, 0x3d6},     /* and now its last element does not fit */
+        {0x3b5, 0, HV_REFUSED_MAP, 0},          /* the second of the first rows */
         {0x303, 1, HV_REFUSED_VERSION, 0x300},  /* the high byte of x in bucket 2, which is the first of the index */
         {0x300, 126, HV_REFUSED_END, 0x37e},    /* x: the index part has two bytes, and the bucket ends in a number */
         {0x300, 128, HV_REFUSED_END, 0x380},    /* x: it has none */
@@ -578,6 +867,14 @@ static void ask_of_incremental(const char *samples)
         blamed_incremental(faults[i].refusal, faults[i].field, __LINE__);
         file.at[faults[i].at] = good;
     }
+    /* The header, then the ISMIndex, big endian, as up to 1.3.0: length and name, whose length is too large now. */
+    memcpy(file.at + 4, "\0\0\0\x35\0\0\0\x10", 8);
+    blamed_incremental(HV_REFUSED_END, 8, __LINE__);
+    read_file(&file, samples, "arrays", "table.f1");
+    memcpy(file.at + 900, "\0\0\0\x56\0\0\0\x08", 8);
+    blamed_incremental(HV_REFUSED_END, 904, __LINE__);
+    read_file(&file, samples, "arrays", "table.f1");
+
     /* Cut: as StandardStMan's; and ISMIndex stands behind the buckets, so its fields are counted from the file's start. */
     before = file.len;
     for (i = 0; i < before; i++) {
@@ -655,12 +952,23 @@ int main(int argc, char **argv)
     ask_for_words();
     ask_for_bits();
     for (is_null = 0; is_null < 2; is_null++) {
-        load_small(argv[1]);
-        ask_of_table();
+        load(argv[1], "small");
+        ask_of_table(1);
         ask_of_cells();
         ask_of_faults();
-        ask_of_long_table();
+        ask_of_cuts();
+        ask_of_long_table(1);
+        load(argv[1], "little");
+        ask_of_table(0);
+        ask_of_cells();
+        ask_of_turned_cells(argv[1]);
+        ask_of_little_faults();
+        ask_of_cuts();
+        ask_of_long_table(0);
+        ask_of_byte_orders(argv[1]);
+        ask_of_info(argv[1]);
         ask_of_incremental(argv[1]);
+        ask_of_incremental_info(argv[1]);
     }
     return 0;
 }

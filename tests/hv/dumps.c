@@ -15,6 +15,7 @@
 
 static uint8_t room[HV_ROOM_MOST];
 static uint64_t sequence;
+static bool is_big; /* the table, and with it the file's header */
 
 static void hold(bool is_so, const char *condition, int line)
 {
@@ -97,7 +98,7 @@ static void cut(struct bytes table, struct bytes file)
     }
     for (len = 0; len < file.len; len++) {
         struct bytes some = part(file, len);
-        struct index_text text = index_text_of(some, true);
+        struct index_text text = index_text_of(some, is_big);
         uint64_t byte, place;
         for (byte = 0; byte <= text.len; byte++)
             HOLD(!index_text_place(&text, byte, &place) || place < len);
@@ -109,7 +110,7 @@ static void cut(struct bytes table, struct bytes file)
 /* Where the bytes of the text stand that the library hands out for a file which it accepts. */
 static size_t places(struct bytes table, struct bytes file, uint64_t *at)
 {
-    struct index_text text = index_text_of(file, true);
+    struct index_text text = index_text_of(file, is_big);
     uint64_t byte, place;
 
     HOLD(hv_check(table.at, table.len, file.at, file.len, sequence, room, sizeof room, NULL, 0) == HV_ACCEPTED);
@@ -194,6 +195,7 @@ static void beyond(struct bytes table)
 int main(int argc, char **argv)
 {
     static uint64_t at[HV_ROOM_MOST];
+    uint64_t description[HV_DESCRIPTION_LEN];
     struct bytes table, file;
     size_t len;
 
@@ -201,6 +203,8 @@ int main(int argc, char **argv)
     table = read_file(argv[1]);
     file = read_file(argv[2]);
     sequence = strtoull(argv[3], NULL, 10);
+    HOLD(hv_description(table.at, table.len, description, HV_DESCRIPTION_LEN) == HV_ACCEPTED);
+    is_big = description[HV_DESCRIPTION_BIG_ENDIAN] == 1;
     len = places(table, file, at);
     cut(table, file);
     change_text(table, file, at, len);
