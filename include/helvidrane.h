@@ -133,7 +133,7 @@ enum hv_column_number {
     HV_COLUMN_STRING_MOST,
     HV_COLUMN_BITS, /* of a cell, not rounded to bytes */
     HV_COLUMN_SEQUENCE, /* the sequence number of its manager */
-    HV_COLUMN_SET,
+    HV_COLUMN_SET, /* this and the offset: as DMInfo tells, 0 where it tells none */
     HV_COLUMN_OFFSET,
     HV_COLUMN_BYTE,
     HV_COLUMN_LEN

@@ -1,5 +1,6 @@
--- RULES.md 11.2: the small file's cases A to L, as one list, and those of the little endian one. Each is asked of the bytes of both files with the definitions that answer the
--- questions, and with an index room of 140 bytes, more than the index texts of both files take (134 and 126 bytes).
+-- RULES.md 11.2: the small file's cases A to L, as one list, and those of the little endian one. Each is asked of the bytes of both
+-- files with the definitions that answer the questions, and with an index room of 140 bytes, more than any of the index texts takes
+-- (134 and 126 bytes).
 use mathlib.Core.Path.{_≡_}
 use mathlib.Core.Bool.{Bool, true, false, _&&_}
 use mathlib.Core.List.{List, [], _∷_, _++_}
@@ -51,9 +52,9 @@ refuses t f q n =
     eqb (a .refused .number) n && eqb (a .refused .byte) 0 && samePlan (a .plan) noPlan && eqb (a .first) 0 && eqb (a .count) 0 && eqb (a .looks) 0 && eqb (a .entries) 0
     && sameBytes (roomAfter t f q roomLength) (replicate 140 0)
 
--- The small file in either byte order: table.dat and table.f0, and where the low bytes stand of TIME's offset, of the second last row
--- and of the number of index buckets.
-pub record SmallFile : Type 0 where
+-- The small file in either byte order: table.dat and table.f0, and where the low bytes stand of TIME's offset, of the second last
+-- row and of the number of index buckets.
+pub record SmallTable : Type 0 where
   pub big : Bool
   pub table : List ℕ
   pub file : List ℕ
@@ -61,34 +62,34 @@ pub record SmallFile : Type 0 where
   pub lastAt : ℕ
   pub bucketsAt : ℕ
 
-abbrev inBig : SmallFile
+abbrev inBig : SmallTable
 inBig = record { big = true; table = tableDat; file = f0; offsetAt = 933; lastAt = 760; bucketsAt = 53 }
 
-abbrev inLittle : SmallFile
+abbrev inLittle : SmallTable
 inLittle = record { big = false; table = littleDat; file = littleF0; offsetAt = 978; lastAt = 757; bucketsAt = 50 }
 
 -- table.dat with another offset of TIME
-abbrev timeAt : SmallFile → ℕ → List ℕ
+abbrev timeAt : SmallTable → ℕ → List ℕ
 timeAt s offset = set (s .table) (s .offsetAt) offset
 
 -- table.dat with another row count: byte 24, in the Table header, and byte 816, in the ColumnSet
-abbrev withRows : SmallFile → ℕ → List ℕ
+abbrev withRows : SmallTable → ℕ → List ℕ
 withRows s rows = set (set (s .table) 24 rows) 816 rows
 
 -- table.f0 with another second last row
-abbrev withLast : SmallFile → ℕ → List ℕ
+abbrev withLast : SmallTable → ℕ → List ℕ
 withLast s last = set (s .file) (s .lastAt) last
 
 -- table.f0 with another number of index buckets
-abbrev withIndexBuckets : SmallFile → ℕ → List ℕ
+abbrev withIndexBuckets : SmallTable → ℕ → List ℕ
 withIndexBuckets s n = set (s .file) (s .bucketsAt) n
 
 -- the refusal of the header of a file that ends after n bytes
-abbrev headerOf : SmallFile → ℕ → Refusal
+abbrev headerOf : SmallTable → ℕ → Refusal
 headerOf s n = headerAt (take n (s .file)) (s .big) .refused
 
 -- A to K
-unfoldable pub casesOf : SmallFile → List Bool
+unfoldable pub casesOf : SmallTable → List Bool
 casesOf s =
     -- A: TIME row 5 is bytes 537 to 544
     gives (s .table) (s .file) 134 (cellIn 5 TIME) (8 * 537) 64
@@ -124,8 +125,8 @@ cases =
     -- L: 8 Bools per row, row 1, offset 0, bucket 0: bits 4,104 to 4,111
     ++ (gives boolsDat boolsF0 126 (cellIn 1 0) 4104 8 ∷ [])
 
--- A to K once more, of the little endian file; and what is no longer read: its table with the big endian file, whose Bool says little
--- endian (byte 29)
+-- A to K once more, of the little endian file; and what is no longer read: its table with the big endian file, whose Bool says
+-- little endian (byte 29)
 unfoldable pub littleCases : List Bool
 littleCases =
     casesOf inLittle

@@ -12,8 +12,8 @@ ghost use Rattle.incremental.specs.Bounds.{IndexInside};
 use incremental_rules::Header;
 use incremental_rules::Index;
 
-// Whether the n buckets whose numbers stand in the file from a place on, in the table's endianness, and k free buckets from b on, are in range and all
-// different.
+// Whether the n buckets whose numbers stand in the file from a place on, in the table's endianness, and k free buckets from b on,
+// are in range and all different.
 pub fn buckets_apart(
     f: &[u8],
     big: bool,

@@ -2,7 +2,7 @@
 use mathlib.Core.Path.{_≡_}
 use mathlib.Core.Logic.{_↔_}
 use Prim.Native.Nat.{ℕ, _+_, _-_, _*_, _≤_, _<_}
-use mathlib.Core.Bool.{cond, Bool, true}
+use mathlib.Core.Bool.{cond, Bool}
 use lib.Dec.{T, eqb, leb}
 use mathlib.Core.List.{List}
 use lib.ListN.{length}
@@ -12,7 +12,6 @@ use Rattle.bytes_at.specs.Stages.{noRefusal, _▷_, orAt, orNo}
 use Rattle.aipsio_rules.specs.Field.{refusalIn}
 use Rattle.bytes_at.specs.Steps.{_>>=_, after}
 use Rattle.standard_rules.specs.Header.{bucketStart}
-use Rattle.bytes_at.specs.Number.{numberIn}
 use Rattle.incremental_rules.specs.declared.Index.{Index}
 use Rattle.incremental_rules.specs.Bucket.{bucketAt, cellsOf, BucketAccepted}
 use Rattle.incremental_rules.specs.declared.Cells.{Cells}
@@ -33,9 +32,9 @@ foundAs refused start offset =
 -- bucket i of the index. The row's bucket is the last whose first row is not above it.
 unfoldable pub bucketInto : Bool → List ℕ → ℕ → Index → Cells → ℕ → Found → ℕ → Found
 bucketInto big f size x cells row found i = do
-  b ← numberIn big 4 f (x .buckets) i
-  first ← numberIn big 4 f (x .firsts) i
-  past ← numberIn big 4 f (x .firsts) (i + 1)
+  b ← bucketNumber big f x i
+  first ← firstRow big f x i
+  past ← firstRow big f x (i + 1)
   at ← bucketStart size b
   rows ← past - first
   local ← row - first

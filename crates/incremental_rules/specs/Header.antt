@@ -1,7 +1,7 @@
 -- RULES.md 6.1, and Note 260, 3.4.3, Header: its fields in file order.
 use Prim.Native.Nat.{ℕ}
 use mathlib.Core.List.{List}
-use mathlib.Core.Bool.{true, Bool, cond}
+use mathlib.Core.Bool.{Bool, cond}
 use lib.Dec.{eqb}
 use lib.ListN.{length}
 use Rattle.bytes_at.specs.Bytes.{bytes}

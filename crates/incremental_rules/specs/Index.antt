@@ -1,7 +1,7 @@
 -- RULES.md 6.2 and 6.3, and Note 260, 3.4.3, Bucket Index: the ISMIndex object, and the rule for its numbers.
 use mathlib.Core.Path.{_≡_}
 use Prim.Native.Nat.{ℕ, _+_, _<_}
-use mathlib.Core.Bool.{cond, Bool, _&&_, false, true}
+use mathlib.Core.Bool.{cond, Bool, _&&_, false}
 use lib.Dec.{eqb, ltb}
 use mathlib.Core.List.{List, [], _∷_, _++_}
 use lib.ListN.{length, getD}

@@ -65,8 +65,8 @@ pub struct FileChecked {
     pub first: usize,
 }
 
-// The refusal after all stages, the fresh plan, the manager's sequence number, whether it is an IncrementalStMan and whether the table
-// is big endian; where the column's set stands in the index text, or where the cell of an IncrementalStMan file begins.
+// The refusal after all stages, the fresh plan, the manager's sequence number, whether it is an IncrementalStMan and whether the
+// table is big endian; where the column's set stands in the index text, or where the cell of an IncrementalStMan file begins.
 pub struct Staged {
     pub refused: Refusal,
     pub plan: Plan,

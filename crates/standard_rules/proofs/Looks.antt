@@ -1,7 +1,7 @@
 -- The search in an accepted file: where it ends, and how many last rows it looks at.
 -- Assumes nothing.
 use mathlib.Core.Path.{_≡_, sym}
-use mathlib.Core.Bool.{_&&_, true}
+use mathlib.Core.Bool.{_&&_}
 use mathlib.Core.List.{List}
 use Prim.Native.Nat.{ℕ, zero, suc, _-_, _*_, _≤_, _<_}
 use native.Mathlib.Decide.{ℕ-discrete}

@@ -1,7 +1,7 @@
 -- RULES.md 5.6, the map: what a file says of rows, buckets and columns, and whether that is right.
 use Prim.Native.Nat.{ℕ, _<_, zero, suc, _+_, _/_, _*_, _≤_}
 use mathlib.Core.List.{List, [], _∷_, map, _++_}
-use mathlib.Core.Bool.{Bool, false, true, _&&_, cond, _||_}
+use mathlib.Core.Bool.{Bool, false, _&&_, cond, _||_}
 use lib.ListN.{getD, length}
 use lib.Dec.{T, eqb, leb, ltb}
 use mathlib.Core.Path.{_≡_}

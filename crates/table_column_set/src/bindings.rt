@@ -241,13 +241,13 @@ pub fn bind(
     while i < n {
         let owner = owners[i];
         let k = owner.manager as usize;
-        let one = flag_at(&told, k);
-        let from = bytes_at::number_at(&sets, k);
-        let to = bytes_at::number_at(&offsets, k);
+        let known = flag_at(&told, k);
+        let sets_start = bytes_at::number_at(&sets, k);
+        let offsets_start = bytes_at::number_at(&offsets, k);
         let info = Info {
-            told: one,
-            sets: from,
-            offsets: to,
+            told: known,
+            sets: sets_start,
+            offsets: offsets_start,
         };
         bindings[i] = read_binding(s, owner, info);
         i += 1;

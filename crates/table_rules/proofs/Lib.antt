@@ -4,3 +4,4 @@ pub mod Described
 pub mod Blamed
 pub mod TableKept
 pub mod SomeBits
+pub mod Behind

@@ -1,5 +1,6 @@
 -- RULES.md 4.6 to 4.9, and Note 260, 3.1.2: ColumnSet, its fields in file order: row count, data managers, ColumnInfo, DMInfo.
 use Prim.Native.Nat.{ℕ, _+_, _-_, _*_}
+use mathlib.Core.Path.{_≡_}
 use mathlib.Core.List.{List}
 use lib.Dec.{eqb, leb, ltb}
 use mathlib.Core.Bool.{cond, Bool, true, false, _&&_}
@@ -124,12 +125,18 @@ noInfo = record { told = false; sets = 0; offsets = 0 }
 abbrev pub isObject : List ℕ → Text → Bool
 isObject s t = leb 4 (t .len) && eqb (uintOf true 4 s (t .start)) 0xbebebebe
 
--- The old form, t, whose length stands at the cursor: "set numbers, then offsets, 8 bytes for each column bound to it", of n columns;
--- another length is 7. The offsets are the last bytes of it.
+-- The old form, t, whose length stands at the cursor: "set numbers, then offsets, 8 bytes for each column bound to it", of n
+-- columns; another length is 7. The offsets end with it, so they begin 4 x n bytes after the set numbers (OffsetsBehindSets).
 unfoldable pub listsIn : Cursor → Text → ℕ → InfoRead
 listsIn c t n = do
   d ← judged (t .next) (c .at) (eqb (t .len) (8 * n)) 7
   record { info = record { told = true; sets = t .start; offsets = t .next .at - 4 * n }; next = d }
+
+-- Of every DMInfo of this form that is not refused.
+abbrev pub OffsetsBehindSets : Type 0
+OffsetsBehindSets =
+    (s : List ℕ) (c : Cursor) (n : ℕ) → listsIn c (textAt s c) n .next .refused ≡ 0
+    → listsIn c (textAt s c) n .info .offsets ≡ listsIn c (textAt s c) n .info .sets + 4 * n
 
 -- The new form of StandardStMan: "an object SSM, version 2: the manager's name, a Block of offsets, then a Block of set numbers",
 -- n of each, else 6
@@ -205,10 +212,10 @@ bindingOf s owner info =
 unfoldable pub bindingAt : List ℕ → List Owner → List Bool → List ℕ → List ℕ → ℕ → Binding
 bindingAt s owners told sets offsets i = do
   owner ← getD owners i noOwner
-  one ← getD told (owner .manager) false
-  from ← getD sets (owner .manager) 0
-  to ← getD offsets (owner .manager) 0
-  bindingOf s owner (record { told = one; sets = from; offsets = to })
+  known ← getD told (owner .manager) false
+  setsStart ← getD sets (owner .manager) 0
+  offsetsStart ← getD offsets (owner .manager) 0
+  bindingOf s owner (record { told = known; sets = setsStart; offsets = offsetsStart })
 
 -- the bindings of n columns
 unfoldable pub bindingsAt : List ℕ → List Owner → List Bool → List ℕ → List ℕ → ℕ → List Binding

@@ -22,7 +22,7 @@ use Rattle.table_rules.specs.declared.Position.the-variants.{At, Refused
 use Rattle.bytes_at.specs.declared.Refusal.{Refusal}
 use Rattle.bytes_at.specs.Stages.{noRefusal, _▷_, orNo, OthersCarry0}
 
--- the bytes of table.dat, AipsIO's own byte order: "at most 65,536 bytes (else 4, before anything is read)"
+-- the bytes of table.dat, big endian in every table: "at most 65,536 bytes (else 4, before anything is read)"
 abbrev pub wholeOf : List ℕ → Cursor
 wholeOf s = judged (record { at = 0; end = length s; big = true; refused = 0 }) 65536 (leb (length s) 65536) 4
 

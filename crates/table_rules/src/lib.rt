@@ -127,7 +127,7 @@ pub struct InfoRead {
     pub next: Cursor,
 }
 
-// The same of the managers in stored order, in lists of numbers, which can be lent, and the cursor past all of them.
+// The same of the managers in stored order, in lists, which can be lent, and the cursor past all of them.
 pub struct Infos {
     pub told: [bool; 16],
     pub sets: [usize; 16],

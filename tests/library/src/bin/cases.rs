@@ -1,5 +1,6 @@
-//! Cases A to L (RULES.md 11.2), asked of the proved library: a line for each question with its answer. The bytes are those of
-//! the proved list of cases, read out of crates/cases/specs/SmallFile.antt, and so are the changes.
+//! Cases A to L (RULES.md 11.2), and A to K of the little endian small file, asked of the proved library: a line for each question
+//! with its answer. The bytes are those of the proved lists of cases, read out of crates/cases/specs/SmallFile.antt, and so are
+//! the changes.
 
 use std::fmt::Write as _;
 
@@ -20,11 +21,25 @@ enum Question {
 
 use Question::{Check, Place, View};
 
-/// The two files of a case.
+/// The two files of a case, and how their numbers are read.
 #[derive(Clone)]
 struct Pair {
     table: Vec<u8>,
     file: Vec<u8>,
+    number: fn([u8; 4]) -> u32,
+}
+
+/// The small file in one byte order, and where the low bytes stand of the numbers that the cases change: TIME's offset in
+/// table.dat; in table.f0 the second last row, and in its header the number of index buckets, the object's length and the number
+/// of indices.
+struct SmallFile {
+    name: &'static str,
+    pair: Pair,
+    offset: usize,
+    last: usize,
+    buckets: usize,
+    length: usize,
+    indices: usize,
 }
 
 /// The bytes of a definition of SmallFile.antt: lines `row COUNT 0xNUMBER`, joined by `++`.
@@ -45,8 +60,8 @@ fn list(text: &str, name: &str) -> Vec<u8> {
 }
 
 /// The index text: what the index buckets hold after their links, in the order of the chain.
-fn index_text(file: &[u8]) -> Vec<u8> {
-    let length = u32::from_be_bytes(file[66..70].try_into().expect("four bytes"));
+fn index_text(Pair { file, number, .. }: &Pair) -> Vec<u8> {
+    let length = number(file[66..70].try_into().expect("four bytes"));
     let bucket = |b: usize| &file[HEADER_ROOM + b * BUCKET..][LINKS..BUCKET];
     let mut text = INDEX_BUCKETS.map(bucket).concat();
     text.truncate(length as usize);
@@ -55,7 +70,7 @@ fn index_text(file: &[u8]) -> Vec<u8> {
 
 /// The answer in words. The room must hold the index text and zeros, or after a refusal zeros alone.
 fn answer(pair: &Pair, question: &Question) -> String {
-    let Pair { table, file } = pair;
+    let Pair { table, file, .. } = pair;
     let position = |name: &str| library::column_by_name(table, name.as_bytes());
     let mut room = vec![ROOM_FILL; ROOM];
     let told = match *question {
@@ -67,7 +82,7 @@ fn answer(pair: &Pair, question: &Question) -> String {
             .and_then(|position| library::view(table, file, row, position, &mut room))
             .map(|[start, length, _]| format!("bytes {start} to {}", start + length - 1)),
     };
-    let mut text = if told.is_ok() { index_text(file) } else { Vec::new() };
+    let mut text = if told.is_ok() { index_text(pair) } else { Vec::new() };
     text.resize(ROOM, 0);
     assert_eq!(room, text, "the room");
     told.unwrap_or_else(|refusal| refusal.to_string())
@@ -95,39 +110,69 @@ fn line(case: &str, unchanged: &Pair, in_table: &[(usize, u8)], in_file: &[(usiz
     format!("{case}: {changes}: {asked}: {}", answer(&pair, &question))
 }
 
+/// A to K.
+fn lines(small: &SmallFile) -> Vec<String> {
+    let SmallFile { name, pair, offset, last, buckets, length, indices } = small;
+    let line = |case, in_table: &[_], in_file: &[_], question| {
+        line(&format!("{name}{case}"), pair, in_table, in_file, question)
+    };
+    let time = |row| Place { row, column: "TIME" };
+    vec![
+        line("A", &[], &[], time(5)),
+        line("B", &[], &[], time(2)),
+        line("C", &[], &[], Place { row: 5, column: "FLAG" }),
+        line("D", &[], &[], Place { row: 6, column: "SCAN" }),
+        line("E", &[], &[], time(7)),
+        line("F", &[], &[], View { row: 5, column: "FLAG" }),
+        line("G", &[(*offset, 16)], &[], time(5)),
+        line("H", &[(24, 9), (816, 9)], &[(*last, 8)], time(5)),
+        line("I", &[], &[(*buckets, 2)], time(5)),
+        line("J", &[(*offset, 32)], &[], Check),
+        line("J", &[(*offset, 32)], &[], time(0)),
+        line("J", &[(*offset, 33)], &[], time(0)),
+        // The header object is the 70 bytes that its length, from byte 4 on, says; 73 is its last byte.
+        line("K", &[], &[(*length, 69)], Check),
+        line("K", &[], &[(*length, 70)], Check),
+        line("K", &[], &[(*length, 71)], Check),
+        line("K", &[], &[(*indices, 0)], Check),
+        line("K", &[], &[(74, 255)], Check),
+    ]
+}
+
 fn main() {
     let path = "crates/cases/specs/SmallFile.antt";
     let text = std::fs::read_to_string(path).expect(path);
-    let small = Pair { table: list(&text, "tableDat"), file: list(&text, "f0") };
-    let bools = Pair { table: list(&text, "boolsDat"), file: list(&text, "boolsF0") };
-    for (sample, bytes) in [("samples/small/table.dat", &small.table), ("samples/small/table.f0", &small.file)] {
+    let pair = |table, file, number| Pair { table: list(&text, table), file: list(&text, file), number };
+    let small = SmallFile {
+        name: "",
+        pair: pair("tableDat", "f0", u32::from_be_bytes),
+        offset: 933,
+        last: 760,
+        buckets: 53,
+        length: 7,
+        indices: 73,
+    };
+    let little = SmallFile {
+        name: "little ",
+        pair: pair("littleDat", "littleF0", u32::from_le_bytes),
+        offset: 978,
+        last: 757,
+        buckets: 50,
+        length: 4,
+        indices: 70,
+    };
+    for (sample, bytes) in [
+        ("samples/small/table.dat", &small.pair.table),
+        ("samples/small/table.f0", &small.pair.file),
+        ("samples/little/table.dat", &little.pair.table),
+        ("samples/little/table.f0", &little.pair.file),
+    ] {
         assert_eq!(&std::fs::read(sample).expect(sample), bytes, "{sample} is that of {path}");
     }
 
-    let time = |row| Place { row, column: "TIME" };
-    let offset = |value| [(933, value)];
-    let lines = [
-        line("A", &small, &[], &[], time(5)),
-        line("B", &small, &[], &[], time(2)),
-        line("C", &small, &[], &[], Place { row: 5, column: "FLAG" }),
-        line("D", &small, &[], &[], Place { row: 6, column: "SCAN" }),
-        line("E", &small, &[], &[], time(7)),
-        line("F", &small, &[], &[], View { row: 5, column: "FLAG" }),
-        line("G", &small, &offset(16), &[], time(5)),
-        line("H", &small, &[(24, 9), (816, 9)], &[(760, 8)], time(5)),
-        line("I", &small, &[], &[(53, 2)], time(5)),
-        line("J", &small, &offset(32), &[], Check),
-        line("J", &small, &offset(32), &[], time(0)),
-        line("J", &small, &offset(33), &[], time(0)),
-        // The header object is the 70 bytes that its length, bytes 4 to 7, says; 73 is its last byte.
-        line("K", &small, &[], &[(7, 69)], Check),
-        line("K", &small, &[], &[(7, 70)], Check),
-        line("K", &small, &[], &[(7, 71)], Check),
-        line("K", &small, &[], &[(73, 0)], Check),
-        line("K", &small, &[], &[(74, 255)], Check),
-        line("L", &bools, &[], &[], Place { row: 1, column: "FLAG" }),
-    ];
-    for line in lines {
+    let bools = pair("boolsDat", "boolsF0", u32::from_be_bytes);
+    let last = line("L", &bools, &[], &[], Place { row: 1, column: "FLAG" });
+    for line in lines(&small).into_iter().chain([last]).chain(lines(&little)) {
         println!("{line}");
     }
 }

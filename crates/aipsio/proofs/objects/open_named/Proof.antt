@@ -1,5 +1,4 @@
 -- `aipsio::objects::open_named` meets its contract: its calls compose as the definition says.
-use borrow.Author.Needs.{needs}
 use Rattle.bytes_at.proofs.Stepped.{via, free}
 use Rattle.aipsio_rules.specs.Object.{opened}
 use Rattle.aipsio.proofs.objects.open_named.Statement.{statement}

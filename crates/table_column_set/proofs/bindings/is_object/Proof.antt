@@ -1,6 +1,5 @@
 -- `table_column_set::bindings::is_object` meets its contract, on either side of its test.
 use borrow.Author.Tests.{le-leb, lt-leb}
-use native.Mathlib.Omega.{arith}
 use Rattle.bytes_at.proofs.Stepped.{free}
 use Rattle.table_column_set.proofs.bindings.is_object.Statement.{statement}
 use Rattle.table_column_set.proofs.bindings.is_object.Tie as tie

@@ -1,6 +1,4 @@
 -- `table_column_set::bindings::lists_in` meets its contract: its calls compose as the definition says.
-use mathlib.Core.Path.{refl}
-use borrow.Author.Needs.{needs}
 use Rattle.bytes_at.proofs.Stepped.{via, free}
 use native.Mathlib.Omega.{arith}
 use Rattle.table_rules.specs.ColumnSet.{listsIn}

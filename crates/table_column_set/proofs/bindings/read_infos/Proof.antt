@@ -5,7 +5,7 @@ use native.Mathlib.Omega.{arith}
 use borrow.Author.Needs.{needs}
 use Rattle.bytes_at.specs.Steps.{after}
 use Rattle.bytes_at.proofs.Loops.{after-none, after-more, after-all}
-use Rattle.bytes_at.proofs.Stepped.{via, free}
+use Rattle.bytes_at.proofs.Stepped.{via}
 use Rattle.table_rules.specs.declared.Infos.{Infos}
 use Rattle.table_rules.specs.ColumnSet.{infoInto, infosAt, noManager}
 use Rattle.table_column_set.proofs.bindings.read_infos.Statement.{statement}
