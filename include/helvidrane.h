@@ -32,7 +32,7 @@
  * goes on with a later library unchanged: it lends an `out` of today's length and gets today's numbers. It should take
  * every number that it does not know for a refusal. A change that is more than this has another soname.
  *
- * Numbers that the caller passes may be any 64-bit numbers.
+ * Numbers that the caller passes may be any 64-bit numbers. A row count is 0 to 2^62, so rows do not fit into 32 bits.
  *
  * Room. hv_check, hv_plan, hv_place and hv_view are lent a room for the index text of a StandardStMan file. It needs the
  * file's index length, else HV_REFUSED_ROOM; HV_ROOM_MOST bytes are always enough. An IncrementalStMan file needs none (0
@@ -52,7 +52,7 @@ extern "C" {
 #endif
 
 /* The version: here, and nowhere else. */
-#define HV_VERSION_MAJOR 2
+#define HV_VERSION_MAJOR 3
 #define HV_VERSION_MINOR 0
 #define HV_VERSION_PATCH 0
 #define HV_IN_QUOTES(major, minor, patch) #major "." #minor "." #patch

@@ -1,7 +1,7 @@
 // The objects of AipsIO (Note 260, sections 2 to 2.4): header and end, TableRecord, Block, SimpleOrderedMap and IPosition.
 ghost use mathlib.Core.Path.{_≡_};
 ghost use Prim.Native.Nat.{_<_, _≤_};
-ghost use Rattle.aipsio_rules.specs.Object.{entered, opened, closed, passed, recordAt, blockAt, mapAt, axisWidth, ipositionAt, axisInto, axesAt, shapeAt};
+ghost use Rattle.aipsio_rules.specs.Object.{entered, opened, closed, passed, recordAt, blockHeadAt, blockAt, rowsAt, rowBlockAt, mapAt, ipositionAt, axisInto, axesAt, shapeAt};
 ghost use Rattle.bytes_at.specs.Joined.{Joins, endBytes, joinedText};
 ghost use Rattle.bytes_at.specs.Number.{bytesOf};
 use aipsio_rules::Cursor;
@@ -118,15 +118,50 @@ pub fn record(s: &[u8], c: Cursor) -> Cursor
     pass(o.next, c)
 }
 
+// Into a Block of n elements: its header and its count.
+fn block_head(s: &[u8], c: Cursor, n: usize) -> Cursor
+    ensures { λ r. ⌜ r ≡ blockHeadAt (now (s .entry)) c n ⌝ }
+{
+    // Block
+    let o = open(s, c, 5, 0x426c6f63, 0x6c6f636b, 1, 1);
+    crate::numbers::agree(s, o.next, n)
+}
+
 // A Block of n elements of `size` bytes each: where they start, and the cursor past it.
 pub fn block(s: &[u8], c: Cursor, n: usize, size: usize) -> Value
     requires { ⌜ 0 < size ⌝ }
     ensures { λ r. ⌜ r ≡ blockAt (now (s .entry)) c n size ⌝ }
 {
-    // Block
-    let o = open(s, c, 5, 0x426c6f63, 0x6c6f636b, 1, 1);
-    let k = crate::numbers::agree(s, o.next, n);
+    let k = block_head(s, c, n);
     let e = crate::skip_each(k, n, size);
+    let d = close(e, c);
+    crate::settle(k.at, d)
+}
+
+// Past n row numbers, up to the first that is refused, whatever n is.
+fn rows(s: &[u8], c: Cursor, n: usize, width: Width) -> Cursor
+    ensures { λ r. ⌜ r ≡ rowsAt (now (s .entry)) c n (bytesOf width) ⌝ }
+{
+    let mut next = c;
+    let mut i = 0;
+    while i < n {
+        let row = crate::numbers::row(s, next, width);
+        next = row.next;
+        let refused = next.refused;
+        if refused != 0 {
+            return next;
+        }
+        i += 1;
+    }
+    next
+}
+
+// A Block of n row numbers: where they start, and the cursor past it.
+pub fn row_block(s: &[u8], c: Cursor, n: usize, width: Width) -> Value
+    ensures { λ r. ⌜ r ≡ rowBlockAt (now (s .entry)) c n (bytesOf width) ⌝ }
+{
+    let k = block_head(s, c, n);
+    let e = rows(s, k, n, width);
     let d = close(e, c);
     crate::settle(k.at, d)
 }
@@ -144,24 +179,14 @@ pub fn map(s: &[u8], c: Cursor) -> Cursor
     close(e, c)
 }
 
-// An axis is an Int in version 1 of IPosition, an Int64 in version 2.
-fn axis_width(version: usize) -> Width
-    ensures { λ r. ⌜ r ≡ axisWidth version ⌝ }
-{
-    if version == 2 {
-        return Width::Eight;
-    }
-    Width::Four
-}
-
-// An IPosition whose count and axes are not judged.
+// An IPosition whose count and axes are not judged. An axis is an Int in version 1, an Int64 in version 2.
 pub fn iposition(s: &[u8], c: Cursor) -> Cursor
     ensures { λ r. ⌜ r ≡ ipositionAt (now (s .entry)) c ⌝ }
 {
     // IPosition
     let o = open(s, c, 9, 0x49506f736974696f, 0x506f736974696f6e, 1, 2);
     let n = crate::numbers::uint(s, o.next);
-    let width = axis_width(o.value);
+    let width = Width::of_int(o.value == 2);
     let e = crate::skip_each(n.next, n.value, width.bytes());
     close(e, c)
 }
@@ -202,7 +227,8 @@ pub fn shape(s: &[u8], c: Cursor, dimensions: usize) -> Value
     let o = open(s, c, 9, 0x49506f736974696f, 0x506f736974696f6e, 1, 2);
     let n = crate::numbers::number(s, o.next, Width::Four, 1, 8);
     let k = crate::judge(n.next, o.next.at, n.value == dimensions, 5);
-    let product = axes(s, k, n.value, axis_width(o.value));
+    let width = Width::of_int(o.value == 2);
+    let product = axes(s, k, n.value, width);
     let d = close(product.next, c);
     crate::settle(product.value, d)
 }

@@ -1,10 +1,10 @@
 -- What an unrefused cursor says of the step into or out of an object that led to it: which tests were passed, and what the step
 -- gave (`-is`).
 -- Assumes nothing.
-use mathlib.Core.Path.{_≡_, refl, sym, ap}
+use mathlib.Core.Path.{_≡_, refl, sym, ap, _∙_}
 use mathlib.Core.List.{List}
 use Prim.Native.Nat.{ℕ, zero, suc, _+_, _*_, _≤_, _<_}
-use native.Mathlib.Nat.{mul-pos}
+use native.Mathlib.Nat.{mul-pos, suc-mul}
 use native.Mathlib.Omega.{arith}
 use lib.Dec.{leb, eqb, lit<}
 use borrow.Author.Tests.{leb-true, eqb-true, eq-eqb}
@@ -12,11 +12,11 @@ use Rattle.bytes_at.specs.Bytes.{bytes}
 use Rattle.bytes_at.specs.Steps.{after, _>>=_}
 use Rattle.aipsio_rules.specs.declared.Cursor.{Cursor}
 use Rattle.aipsio_rules.specs.declared.Value.{Value}
-use Rattle.aipsio_rules.specs.Field.{refusedAt, leftIn, skippedEach, settled, uintAt, rangedAt, agreed, nameAt}
+use Rattle.aipsio_rules.specs.Field.{refusedAt, leftIn, movedTo, mostInt64, rowAt, skippedEach, settled, uintAt, rangedAt, agreed, nameAt}
 use Rattle.aipsio_rules.proofs.Kept.{Clean, clean-before, name-keeps, ranged-reads, agreed-keeps, _⨟_}
-use Rattle.aipsio_rules.proofs.Accepted.{latched-clean, passed-test, not-zero, judged-passed, each-fits, each-is, sized-fits, ranged-within, uint-is, agreed-is}
-use Rattle.aipsio_rules.specs.Object.{entered, opened, closed, blockAt, axisInto, axesAt, shapeAt}
-use Rattle.aipsio_rules.proofs.ObjectKept.{closed-keeps, axis-reads}
+use Rattle.aipsio_rules.proofs.Accepted.{latched-clean, passed-test, not-zero, judged-passed, each-fits, each-is, sized-fits, sized-is, ranged-is, ranged-within, uint-is, agreed-is}
+use Rattle.aipsio_rules.specs.Object.{entered, opened, closed, blockHeadAt, blockAt, rowsAt, rowBlockAt, axisInto, axesAt, shapeAt}
+use Rattle.aipsio_rules.proofs.ObjectKept.{closed-keeps, rows-keeps, axis-reads}
 use Rattle.aipsio_rules.proofs.ObjectSides.{enter-on, close-on}
 
 -- the object ends in its container, and not before its header
@@ -43,6 +43,9 @@ module _ (c outer : Cursor) where
   pub closed-is : Clean (closed c outer) → closed c outer ≡ record { at = c .at; end = outer .end; big = c .big; refused = 0 }
   closed-is e = let f = closed-full e in sym (close-on c (f .0) outer (f .1))
 
+cursor-same : (c : Cursor) {at : ℕ} → c .at ≡ at → Clean c → c ≡ movedTo c at
+cursor-same c p e = rw (← p, ← e)
+
 -- an object, whose fields begin at o, in its container c
 pub record Inside (c o : Cursor) : Type 0 where
   pub clean : Clean c
@@ -62,19 +65,49 @@ module _ (s : List ℕ) (c : Cursor) (expected : List ℕ) (low high : ℕ) (e :
       rw (entered-is (v .next) c (len .value) e)
       (record { clean = g .0; room = omega arith; ends = f .2; within = omega arith })
 
--- the elements of a Block lie in its container
+-- a Block ends in its container
+head-within : (s : List ℕ) (c : Cursor) (n : ℕ) → Clean (blockHeadAt s c n) → blockHeadAt s c n .end ≤ c .end
+unfolding blockHeadAt _>>=_
+head-within s c n e =
+    let o = opened s c (bytes "Block") 1 1 .next in
+    let q : agreed s o n .end ≡ o .end = ap (λ (x : Cursor). x .end) (agreed-is s o n e) in
+    let i = opened-inside s c (bytes "Block") 1 1 (clean-before (agreed-keeps s o n) e) in
+    omega (arith, i .within)
+
+-- and its elements lie in it
 pub block-inside : (s : List ℕ) (c : Cursor) (n size : ℕ) → Clean (blockAt s c n size .next) → blockAt s c n size .value + n * size ≤ c .end
 unfolding blockAt settled _>>=_
 block-inside s c n size e =
-    let o = opened s c (bytes "Block") 1 1 .next in
-    let k = agreed s o n in
+    let k = blockHeadAt s c n in
     let d = skippedEach k n size in
     let f = closed-full d c e in
     let g = each-fits k n size (f .0) in
     let p : k .at + n * size ≡ k .end = rw (each-is k n size (f .0)) at (f .1) in
-    let q : k .end ≡ o .end = ap (λ (x : Cursor). x .end) (agreed-is s o n (g .0)) in
-    let i = opened-inside s c (bytes "Block") 1 1 (clean-before (agreed-keeps s o n) (g .0)) in
-    rw (eq-eqb (closed d c .refused) 0 e) (omega (arith, i .within))
+    rw (eq-eqb (closed d c .refused) 0 e) (omega (arith, head-within s c n (g .0)))
+
+row-is : (s : List ℕ) (c : Cursor) (width : ℕ) → Clean (rowAt s c width .next) → rowAt s c width .next ≡ movedTo c (c .at + width)
+row-is s c width e =
+    let r = ranged-is s c width 0 mostInt64 3 e in
+    ap (λ (v : Value). v .next) (r ∙ sized-is s c width (rw r at e))
+
+-- a run of row numbers that is not refused ends behind them
+pub rows-is : (s : List ℕ) (c : Cursor) (n width : ℕ) → Clean (rowsAt s c n width) → rowsAt s c n width ≡ movedTo c (c .at + n * width)
+unfolding rowsAt after
+rows-is s c zero width e = cursor-same c (omega arith) e
+rows-is s c (suc n) width e =
+    let d = rowsAt s c n width in
+    let q = rows-is s c n width (clean-before (ranged-reads s d width 0 mostInt64 4 .keeps) e) in
+    let p : c .at + n * width + width ≡ c .at + suc n * width = omega (arith, suc-mul n width) in
+    row-is s d width e ∙ ap (λ (x : Cursor). movedTo x (x .at + width)) q ∙ ap (movedTo c) p
+
+pub row-block-inside : (s : List ℕ) (c : Cursor) (n width : ℕ) → Clean (rowBlockAt s c n width .next) → rowBlockAt s c n width .value + n * width ≤ c .end
+unfolding rowBlockAt settled _>>=_
+row-block-inside s c n width e =
+    let k = blockHeadAt s c n in
+    let d = rowsAt s k n width in
+    let f = closed-full d c e in
+    let p : k .at + n * width ≡ k .end = rw (rows-is s k n width (f .0)) at (f .1) in
+    rw (eq-eqb (closed d c .refused) 0 e) (omega (arith, head-within s c n (clean-before (rows-keeps s k n width) (f .0))))
 
 -- a number above 0
 pub settled-some : (v : ℕ) (c : Cursor) → (Clean c → 0 < v) → Clean (settled v c .next) → 0 < settled v c .value

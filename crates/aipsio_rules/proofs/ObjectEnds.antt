@@ -8,8 +8,8 @@ use Rattle.aipsio_rules.specs.declared.Cursor.{Cursor}
 use Rattle.aipsio_rules.specs.Field.{settled}
 use Rattle.aipsio_rules.proofs.Kept.{Clean, clean-before, _⨟_}
 use Rattle.aipsio_rules.proofs.Ends.{Stays, end-of}
-use Rattle.aipsio_rules.specs.Object.{opened, closed, blockAt, mapAt}
-use Rattle.aipsio_rules.proofs.ObjectKept.{opened-reads, closed-keeps, block-reads, map-keeps}
+use Rattle.aipsio_rules.specs.Object.{opened, closed, blockAt, rowBlockAt, mapAt}
+use Rattle.aipsio_rules.proofs.ObjectKept.{opened-reads, closed-keeps, block-reads, row-block-reads, map-keeps}
 use Rattle.aipsio_rules.proofs.ObjectAccepted.{closed-is, opened-inside}
 
 module _ (s : List ℕ) (c : Cursor) where
@@ -32,6 +32,13 @@ module _ (s : List ℕ) (c : Cursor) where
 
   pub block-stays : (n size : ℕ) → Stays c (blockAt s c n size .next)
   block-stays n size = record { keeps = block-reads s c n size .keeps; ends = block-ends n size }
+
+  row-block-ends : (n width : ℕ) → Clean (rowBlockAt s c n width .next) → rowBlockAt s c n width .next .end ≤ c .end
+  unfolding rowBlockAt settled _>>=_
+  row-block-ends n width h = end-of (closed-is _ c h)
+
+  pub row-block-stays : (n width : ℕ) → Stays c (rowBlockAt s c n width .next)
+  row-block-stays n width = record { keeps = row-block-reads s c n width .keeps; ends = row-block-ends n width }
 
 -- out of an object, to the end of its container
 pub closed-stays : {c outer d : Cursor} → Stays c outer → Stays outer d → Stays c (closed d outer)

@@ -1,12 +1,15 @@
 -- A refused cursor stays as it is through every object.
 -- Assumes nothing.
 use mathlib.Core.List.{List}
-use Prim.Native.Nat.{ℕ}
+use mathlib.Core.Path.{_≡_, ap}
+use Prim.Native.Nat.{ℕ, _+_, _≤_}
 use Rattle.bytes_at.specs.Steps.{_>>=_}
+use Rattle.bytes_at.proofs.Loops.{after-none, after-more, after-all, after-stop}
+use Rattle.aipsio_rules.specs.Field.{mostInt64, rowAt}
 use Rattle.aipsio_rules.specs.declared.Cursor.{Cursor}
 use Rattle.aipsio_rules.specs.declared.Value.{Value}
-use Rattle.aipsio_rules.proofs.Kept.{Keeps, Reads, after-keeps, latched-keeps, each-keeps, judged-keeps, settled-reads, uint-reads, ranged-reads, agreed-keeps, name-keeps, _⨟_}
-use Rattle.aipsio_rules.specs.Object.{entered, opened, closed, passed, recordAt, blockAt, mapAt, ipositionAt, axisInto, axesAt, shapeAt}
+use Rattle.aipsio_rules.proofs.Kept.{Refused, Keeps, Reads, after-keeps, latched-keeps, each-keeps, judged-keeps, settled-reads, uint-reads, ranged-reads, agreed-keeps, name-keeps, _⨟_}
+use Rattle.aipsio_rules.specs.Object.{entered, opened, closed, passed, recordAt, blockHeadAt, blockAt, rowsAt, rowBlockAt, mapAt, ipositionAt, axisInto, axesAt, shapeAt}
 
 pub entered-keeps : (c outer : Cursor) (len : ℕ) → Keeps c (entered c outer len)
 unfolding entered
@@ -29,10 +32,39 @@ pub record-keeps : (s : List ℕ) (c : Cursor) → Keeps c (recordAt s c)
 unfolding recordAt _>>=_
 record-keeps s c = opened-reads s c _ 1 1 .keeps ⨟ passed-keeps _ c
 
+pub block-head-keeps : (s : List ℕ) (c : Cursor) (n : ℕ) → Keeps c (blockHeadAt s c n)
+unfolding blockHeadAt _>>=_
+block-head-keeps s c n = opened-reads s c _ 1 1 .keeps ⨟ agreed-keeps s _ n
+
 pub block-reads : (s : List ℕ) (c : Cursor) (n size : ℕ) → Reads c (blockAt s c n size)
 unfolding blockAt _>>=_
-block-reads s c n size =
-    settled-reads _ (opened-reads s c _ 1 1 .keeps ⨟ agreed-keeps s _ n ⨟ each-keeps _ n size ⨟ closed-keeps _ c)
+block-reads s c n size = settled-reads _ (block-head-keeps s c n ⨟ each-keeps _ n size ⨟ closed-keeps _ c)
+
+pub rows-keeps : (s : List ℕ) (c : Cursor) (n width : ℕ) → Keeps c (rowsAt s c n width)
+unfolding rowsAt
+rows-keeps s c n width = after-keeps _ (λ (d : Cursor). d) (λ d i. ranged-reads s d width 0 mostInt64 4 .keeps) c n
+
+-- the loop over them: at the start, after a turn, at the end, and after a refusal, which no turn changes
+module _ (s : List ℕ) (c : Cursor) (width : ℕ) where
+  pub rows-none : c ≡ rowsAt s c 0 width
+  unfolding rowsAt
+  rows-none = after-none _ c
+
+  pub rows-more : (i : ℕ) {d : Cursor} {row : Value} → d ≡ rowsAt s c i width → row ≡ rowAt s d width → row .next ≡ rowsAt s c (i + 1) width
+  unfolding rowsAt
+  rows-more i p q = after-more _ c i p (ap (λ (v : Value). v .next) q)
+
+  pub rows-all : (i n : ℕ) {d : Cursor} → d ≡ rowsAt s c i width → i ≤ n → n ≤ i → d ≡ rowsAt s c n width
+  unfolding rowsAt
+  rows-all i n p a b = after-all _ c i n p a b
+
+  pub rows-stop : (i n : ℕ) {d : Cursor} → d ≡ rowsAt s c i width → i ≤ n → Refused d → d ≡ rowsAt s c n width
+  unfolding rowsAt
+  rows-stop i n {d} p a h = after-stop _ c i n p a (λ j. ranged-reads s d width 0 mostInt64 4 .keeps .stays h)
+
+pub row-block-reads : (s : List ℕ) (c : Cursor) (n width : ℕ) → Reads c (rowBlockAt s c n width)
+unfolding rowBlockAt _>>=_
+row-block-reads s c n width = settled-reads _ (block-head-keeps s c n ⨟ rows-keeps s _ n width ⨟ closed-keeps _ c)
 
 pub map-keeps : (s : List ℕ) (c : Cursor) → Keeps c (mapAt s c)
 unfolding mapAt _>>=_

@@ -13,12 +13,19 @@ use Rattle.aipsio_rules.specs.declared.Cursor.{Cursor}
 use Rattle.aipsio_rules.specs.declared.Value.{Value}
 use Rattle.aipsio_rules.specs.declared.Text.{Text}
 
--- An Int is the uInt of the same bytes: -1 and -2.
+-- An Int is the uInt of the same bytes: -1, -2 and -3.
 abbrev pub minusOne : ℕ
 minusOne = 4294967295
 
 abbrev pub minusTwo : ℕ
 minusTwo = 4294967294
+
+abbrev pub minusThree : ℕ
+minusThree = 4294967293
+
+-- An Int64 is the number of the same 8 bytes: the largest that is not negative.
+abbrev pub mostInt64 : ℕ
+mostInt64 = 9223372036854775807
 
 -- the cursor itself if it is refused; else what follows
 abbrev pub latched : Cursor → Cursor → Cursor
@@ -83,6 +90,10 @@ rangedAt s c width low high refusal = do
 -- "a number outside the Ranges": 4
 abbrev pub numberAt : List ℕ → Cursor → ℕ → ℕ → ℕ → Value
 numberAt s c width low high = rangedAt s c width low high 4
+
+-- a row number of so many bytes: "Negative row numbers give 4". A uInt is never negative.
+abbrev pub rowAt : List ℕ → Cursor → ℕ → Value
+rowAt s c width = numberAt s c width 0 mostInt64
 
 -- "a version is not listed": 3
 abbrev pub versionAt : List ℕ → Cursor → ℕ → ℕ → Value

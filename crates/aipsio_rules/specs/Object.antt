@@ -3,14 +3,12 @@ use Prim.Native.Nat.{ℕ, _+_, _*_}
 use mathlib.Core.List.{List}
 use mathlib.Core.Bool.{cond}
 use lib.Dec.{leb, eqb}
-use Rattle.bytes_at.specs.declared.Width.{Width}
-use Rattle.bytes_at.specs.declared.Width.the-variants.{Four, Eight}
-use Rattle.bytes_at.specs.Number.{bytesOf}
+use Rattle.bytes_at.specs.Number.{bytesOf, intWidth}
 use Rattle.bytes_at.specs.Bytes.{bytes}
 use Rattle.bytes_at.specs.Steps.{after, _>>=_}
 use Rattle.aipsio_rules.specs.declared.Cursor.{Cursor}
 use Rattle.aipsio_rules.specs.declared.Value.{Value}
-use Rattle.aipsio_rules.specs.Field.{latched, refusedAt, leftIn, skippedEach, judged, settled, uintAt, numberAt, versionAt, agreed, nameAt}
+use Rattle.aipsio_rules.specs.Field.{latched, refusedAt, leftIn, skippedEach, judged, settled, uintAt, numberAt, rowAt, versionAt, agreed, nameAt}
 
 -- into an object of len bytes whose header begins at `outer` and ends at the cursor: "its end against its container" (1),
 -- and 7 "at the header if the length is below the header's own size"
@@ -51,12 +49,29 @@ recordAt s c = do
   o ← opened s c (bytes "TableRecord") 1 1
   passed (o .next) c
 
--- "Block: header Block version 1, uInt count, elements": n elements of `size` bytes, else 6. Gives where they start.
+-- "Block: header Block version 1, uInt count, elements": into a Block that has to have n elements, else 6
+unfoldable pub blockHeadAt : List ℕ → Cursor → ℕ → Cursor
+blockHeadAt s c n = do
+  o ← opened s c (bytes "Block") 1 1
+  agreed s (o .next) n
+
+-- a Block of n elements of `size` bytes. Gives where they start.
 unfoldable pub blockAt : List ℕ → Cursor → ℕ → ℕ → Value
 blockAt s c n size = do
-  o ← opened s c (bytes "Block") 1 1
-  k ← agreed s (o .next) n
+  k ← blockHeadAt s c n
   e ← skippedEach k n size
+  d ← closed e c
+  settled (k .at) d
+
+-- n row numbers of so many bytes, "one by one, in file order"
+unfoldable pub rowsAt : List ℕ → Cursor → ℕ → ℕ → Cursor
+rowsAt s c n width = after (λ (d : Cursor) (i : ℕ). rowAt s d width .next) c n
+
+-- a Block of n row numbers. Gives where they start.
+unfoldable pub rowBlockAt : List ℕ → Cursor → ℕ → ℕ → Value
+rowBlockAt s c n width = do
+  k ← blockHeadAt s c n
+  e ← rowsAt s k n width
   d ← closed e c
   settled (k .at) d
 
@@ -71,16 +86,12 @@ mapAt s c = do
   e ← skippedEach (increment .next) (2 * n .value) 4
   closed e c
 
--- an axis of IPosition: "version 1 Int, 2 Int64"
-abbrev pub axisWidth : ℕ → Width
-axisWidth version = cond (eqb version 2) Eight Four
-
--- an IPosition that is "read and not judged" (Note 260, 2.2)
+-- an IPosition that is "read and not judged" (Note 260, 2.2); its axes: "version 1 Int, 2 Int64"
 unfoldable pub ipositionAt : List ℕ → Cursor → Cursor
 ipositionAt s c = do
   o ← opened s c (bytes "IPosition") 1 2
   n ← uintAt s (o .next)
-  width ← axisWidth (o .value)
+  width ← intWidth (eqb (o .value) 2)
   each ← bytesOf width
   e ← skippedEach (n .next) (n .value) each
   closed e c
@@ -102,7 +113,7 @@ shapeAt s c dimensions = do
   o ← opened s c (bytes "IPosition") 1 2
   n ← numberAt s (o .next) 4 1 8
   k ← judged (n .next) (o .next .at) (eqb (n .value) dimensions) 5
-  width ← axisWidth (o .value)
+  width ← intWidth (eqb (o .value) 2)
   product ← axesAt s k (n .value) (bytesOf width)
   d ← closed (product .next) c
   settled (product .value) d

@@ -3,8 +3,9 @@
 use mathlib.Core.Path.{_≡_, refl, ap, _∙_}
 use mathlib.Core.Bool.{Bool}
 use mathlib.Core.List.{List}
-use Prim.Native.Nat.{ℕ, zero, suc, _+_, _*_, _≤_, _<_}
+use Prim.Native.Nat.{ℕ, zero, suc, _+_, _-_, _*_, _≤_, _<_}
 use native.Mathlib.Nat.{mul-le-mul-right, suc-mul, add-mul}
+use native.Mathlib.Numerals.{sub-one}
 use native.Mathlib.Omega.{arith}
 use lib.ListN.{length, getD}
 use Rattle.bytes_at.specs.Number.{uintOf, numberIn, numbersAt}
@@ -22,6 +23,11 @@ number-at big w s at (suc n) zero h = let e : at ≡ at + 0 * w = omega arith in
 number-at big w s at (suc n) (suc k) h =
     let e : at + w + k * w ≡ at + suc k * w = omega (arith, suc-mul k w) in
     number-at big w s (at + w) n k (omega arith) ∙ ap (uintOf big w s) e
+
+-- n widths are n - 1 and one
+pub one-less : (n w : ℕ) → 0 < n → n * w ≡ (n - 1) * w + w
+one-less zero w h = absurd (omega arith)
+one-less (suc n) w h = rw sub-one (omega (arith, suc-mul n w))
 
 -- n widths from a place on have room for number k
 pub room-for : (at n k w : ℕ) {l : ℕ} → k < n → at + n * w ≤ l → at + (k + 1) * w ≤ l

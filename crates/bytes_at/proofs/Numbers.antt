@@ -111,9 +111,6 @@ module _ (s : List ℕ) (at : ℕ) (h : Bytes s) where
   word-below big =
       elim (decLe (at + 4) (length s)) [ yes l ↦ four-below big l | no l ↦ omega (arith, no-number big 4 s at (omega arith) (omega arith)) ]
 
-  pub a-word : (big : Bool) {r : ℕ} → r ≡ uintOf big 4 s at → (r ≡ uintOf big 4 s at) × (r < 4294967296)
-  a-word big e = (e, omega (arith, word-below big))
-
 -- bytes of a part, and of two lists joined
 bytes-take : (n : ℕ) (l : List ℕ) → Bytes l → Bytes (take n l)
 bytes-take zero l f i = omega arith

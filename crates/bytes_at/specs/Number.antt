@@ -1,7 +1,7 @@
 -- Numbers in bytes.
 use Prim.Native.Nat.{ℕ, zero, suc, _+_, _*_, _/_, _%_, _^_}
 use mathlib.Core.List.{List, [], _∷_}
-use mathlib.Core.Bool.{Bool, true, false}
+use mathlib.Core.Bool.{Bool, true, false, cond}
 use lib.ListN.{drop}
 use Rattle.bytes_at.specs.declared.Width.{Width}
 use Rattle.bytes_at.specs.declared.Width.the-variants.{One, Two, Four, Eight}
@@ -29,6 +29,13 @@ bytesOf One = 1
 bytesOf Two = 2
 bytesOf Four = 4
 bytesOf Eight = 8
+
+-- an Int or a uInt has 4 bytes, an Int64, where wide, has 8
+abbrev pub intWidth : Bool → Width
+intWidth wide = cond wide Eight Four
+
+abbrev pub intBytes : Bool → ℕ
+intBytes wide = bytesOf (intWidth wide)
 
 -- number k of those from a place on, `width` bytes each
 abbrev pub numberIn : Bool → ℕ → List ℕ → ℕ → ℕ → ℕ

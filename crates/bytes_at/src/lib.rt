@@ -7,7 +7,7 @@ ghost use lib.ListN.{getD, length, take, drop, replicate};
 ghost use mathlib.Core.Bool.{true, false, _&&_};
 ghost use lib.Dec.{leb};
 ghost use lib.Seq.{paste};
-ghost use Rattle.bytes_at.specs.Number.{bytesOf, uintOf};
+ghost use Rattle.bytes_at.specs.Number.{bytesOf, intWidth, uintOf};
 ghost use Rattle.bytes_at.specs.Stages.{blaming};
 
 // Why something is refused: its number (RULES.md 8.1), which is 0 where nothing is, and the byte at which the failing field begins
@@ -26,6 +26,16 @@ pub enum Width {
 }
 
 impl Width {
+    // An Int's or a uInt's; an Int64's where wide.
+    pub fn of_int(wide: bool) -> Width
+        ensures { λ r. ⌜ r ≡ intWidth wide ⌝ }
+    {
+        if wide {
+            return Width::Eight;
+        }
+        Width::Four
+    }
+
     pub fn bytes(self) -> usize
         ensures { λ r. ⌜ (r ≡ bytesOf self) × (r ≤ 8) ⌝ }
     {
@@ -91,6 +101,7 @@ pub fn big_word(s: &[u8], at: usize) -> usize
 fn little_word(s: &[u8], at: usize) -> usize
     requires { ⌜ at + 4 ≤ length (now s) ⌝ }
     ensures { λ r. ⌜ r ≡ uintOf false 4 (now (s .entry)) at ⌝ }
+    ensures bounded { λ r. ⌜ r < 4294967296 ⌝ }
 {
     let a = wide(s[at]);
     let b = wide(s[at + 1]);
@@ -103,11 +114,25 @@ fn little_word(s: &[u8], at: usize) -> usize
 pub fn word_there(s: &[u8], at: usize, big: bool) -> usize
     requires { ⌜ at + 4 ≤ length (now s) ⌝ }
     ensures { λ r. ⌜ r ≡ uintOf big 4 (now (s .entry)) at ⌝ }
+    ensures bounded { λ r. ⌜ r < 4294967296 ⌝ }
 {
     if big {
         return big_word(s, at);
     }
     little_word(s, at)
+}
+
+// The number in eight bytes that are there, in either byte order.
+fn long_there(s: &[u8], at: usize, big: bool) -> usize
+    requires { ⌜ at + 8 ≤ length (now s) ⌝ }
+    ensures { λ r. ⌜ r ≡ uintOf big 8 (now (s .entry)) at ⌝ }
+{
+    let a = word_there(s, at, big);
+    let b = word_there(s, at + 4, big);
+    if big {
+        return a * 4294967296 + b;
+    }
+    b * 4294967296 + a
 }
 
 // The number in eight bytes that are there, most significant byte first.
@@ -144,12 +169,7 @@ pub fn long(s: &[u8], at: usize, big: bool) -> usize
     if s.len() - 8 < at {
         return 0;
     }
-    let a = word(s, at, big);
-    let b = word(s, at + 4, big);
-    if big {
-        return a * 4294967296 + b;
-    }
-    b * 4294967296 + a
+    long_there(s, at, big)
 }
 
 // The number in as many bytes as the width says; 0 where the bytes end before.
@@ -161,6 +181,19 @@ pub fn number(s: &[u8], at: usize, big: bool, width: Width) -> usize
         Width::Two => short(s, at, big),
         Width::Four => word(s, at, big),
         Width::Eight => long(s, at, big),
+    }
+}
+
+// The same, of bytes that are there.
+pub fn number_there(s: &[u8], at: usize, big: bool, width: Width) -> usize
+    requires { ⌜ at + bytesOf width ≤ length (now s) ⌝ }
+    ensures { λ r. ⌜ r ≡ uintOf big (bytesOf width) (now (s .entry)) at ⌝ }
+{
+    match width {
+        Width::One => byte(s, at, big),
+        Width::Two => short(s, at, big),
+        Width::Four => word_there(s, at, big),
+        Width::Eight => long_there(s, at, big),
     }
 }
 

@@ -15,7 +15,6 @@ use Rattle.standard_rules.specs.Header.{bucketStart}
 use Rattle.standard_rules.specs.Index.{freeOk}
 use Rattle.bytes_at.proofs.Tests.{passed}
 use Rattle.standard_rules.proofs.Places.{step}
-use Rattle.bytes_at.specs.Number.{numberIn}
 use Rattle.table_rules.specs.declared.Description.{Description}
 use Rattle.standard_rules.specs.Check.{longEnough}
 use Rattle.incremental_rules.specs.declared.Header.{Header}
@@ -25,7 +24,7 @@ use Rattle.incremental.specs.Bounds.{HeaderBounds}
 use Rattle.incremental_rules.specs.declared.Cells.{Cells}
 use Rattle.incremental_rules.specs.declared.Found.{Found}
 use Rattle.incremental_rules.specs.declared.Checked.{Checked}
-use Rattle.incremental_rules.specs.Index.{indexFits, indexOf}
+use Rattle.incremental_rules.specs.Index.{bucketNumber, indexFits, indexOf}
 use Rattle.incremental_rules.specs.Bucket.{cellsOf}
 use Rattle.incremental_rules.specs.Check.{searchOf, refusalOf, checkedAs}
 use Rattle.incremental_rules.proofs.AnyCell.{cells-same, search-same}
@@ -44,7 +43,7 @@ area-passed refused h f b e y = let z = rw e at y in record {
 
 -- the buckets of an index that is right lie in the file
 pub buckets-inside : (rows : ℕ) (big : Bool) (f : List ℕ) (h : Header) (x : Index) {m : Bool} → Area f (h .size) (h .count) → m ≡ indexFits rows big f h x → m ≡ true
-    → (i : ℕ) → i < x .count → bucketStart (h .size) (numberIn big 4 f (x .buckets) i) + h .size ≤ length f
+    → (i : ℕ) → i < x .count → bucketStart (h .size) (bucketNumber big f x i) + h .size ≤ length f
 buckets-inside rows big f h x a e z i l =
     omega (arith, step (h .size) (index-read rows big f h x (passed (sym e ∙ z)) .in-range i l), a .holds)
 

@@ -5,7 +5,7 @@ ghost use lib.ListN.{length};
 ghost use mathlib.Core.Path.{_≡_};
 ghost use Rattle.incremental.specs.Bounds.{IndexInside};
 ghost use Rattle.standard_rules.specs.Header.{bucketStart};
-ghost use Rattle.bytes_at.specs.Number.{numberIn};
+ghost use Rattle.incremental_rules.specs.Index.{bucketNumber};
 ghost use Rattle.incremental_rules.specs.Check.{searchOf};
 use bytes_at::Refusal;
 use incremental_rules::Cells;
@@ -16,8 +16,8 @@ use incremental_rules::Index;
 // the offset of the row's value in the column.
 pub fn find_cell(f: &[u8], big: bool, size: usize, x: Index, cells: Cells, row: usize) -> Found
     requires { ⌜ (size ≤ 1048576) × (cells .count ≤ 64) ⌝ }
-    requires { ⌜ IndexInside (length (now f)) 4 x ⌝ }
-    requires { ⌜ ((i : ℕ) → i < x .count → bucketStart size (numberIn big 4 (now f) (x .buckets) i) + size ≤ length (now f)) ⌝ }
+    requires { ⌜ IndexInside (length (now f)) x ⌝ }
+    requires { ⌜ ((i : ℕ) → i < x .count → bucketStart size (bucketNumber big (now f) x i) + size ≤ length (now f)) ⌝ }
     ensures { λ r. ⌜ r ≡ searchOf big (now (f .entry)) size x cells row ⌝ }
     ensures bounded { λ r. ⌜ (r .start ≤ 4503599627371008) × (r .offset ≤ 1048576) ⌝ }
 {
@@ -28,8 +28,8 @@ pub fn find_cell(f: &[u8], big: bool, size: usize, x: Index, cells: Cells, row: 
     let mut i = 0;
     while i < n {
         let b = bytes_at::word(f, x.buckets + i * 4, big);
-        let first = bytes_at::word(f, x.firsts + i * 4, big);
-        let past = bytes_at::word(f, x.firsts + (i + 1) * 4, big);
+        let first = crate::index::first_row(f, big, x, i);
+        let past = crate::index::first_row(f, big, x, i + 1);
         let at = 512 + b * size;
         let rows = bytes_at::minus(past, first);
         let local = bytes_at::minus(row, first);

@@ -5,10 +5,11 @@ ghost use mathlib.Core.Path.{_≡_};
 ghost use mathlib.Core.List.{_++_};
 ghost use Rattle.buckets.specs.Area.{Area};
 ghost use Rattle.standard_rules.specs.Index.{links};
-ghost use Rattle.bytes_at.specs.Number.{numbersAt};
+ghost use Rattle.bytes_at.specs.Number.{bytesOf, numbersAt};
 ghost use Rattle.bytes_at.specs.Lists.{allApart};
-ghost use Rattle.incremental_rules.specs.Index.{firstsFit, indexFits};
+ghost use Rattle.incremental_rules.specs.Index.{firstRow, firstsFit, indexFits};
 ghost use Rattle.incremental.specs.Bounds.{IndexInside};
+use bytes_at::Width;
 use incremental_rules::Header;
 use incremental_rules::Index;
 
@@ -35,24 +36,35 @@ pub fn buckets_apart(
     buckets::marks::add_chain(&mut seen, nb, f, size, k, b)
 }
 
-// Whether the n + 1 first rows that stand in the file from a place on begin with 0, rise strictly and end at the row count.
-pub fn rows_rise(f: &[u8], big: bool, from: usize, n: usize, rows: usize) -> bool
-    requires { ⌜ from + (n + 1) * 4 ≤ length (now f) ⌝ }
-    ensures { λ r. ⌜ r ≡ firstsFit rows (numbersAt big 4 (now (f .entry)) from (n + 1)) ⌝ }
+// The first row of entry i, or the row count at i = count.
+pub fn first_row(f: &[u8], big: bool, x: Index, i: usize) -> usize
+    requires { ⌜ (IndexInside (length (now f)) x) × (i ≤ x .count) ⌝ }
+    ensures { λ r. ⌜ r ≡ firstRow big (now (f .entry)) x i ⌝ }
 {
-    if bytes_at::word(f, from, big) != 0 {
+    let width = Width::of_int(x.wide);
+    let size = width.bytes();
+    bytes_at::number(f, x.firsts + i * size, big, width)
+}
+
+// Whether the n + 1 first rows that stand in the file from a place on begin with 0, rise strictly and end at the row count.
+pub fn rows_rise(f: &[u8], big: bool, width: Width, from: usize, n: usize, rows: usize) -> bool
+    requires { ⌜ from + (n + 1) * bytesOf width ≤ length (now f) ⌝ }
+    ensures { λ r. ⌜ r ≡ firstsFit rows (numbersAt big (bytesOf width) (now (f .entry)) from (n + 1)) ⌝ }
+{
+    if bytes_at::number(f, from, big, width) != 0 {
         return false;
     }
-    let mut at = from + 4;
+    let size = width.bytes();
+    let mut at = from + size;
     let mut left = n;
     let mut last = 0;
     while 0 < left {
-        let v = bytes_at::word(f, at, big);
+        let v = bytes_at::number(f, at, big, width);
         if v <= last {
             return false;
         }
         last = v;
-        at += 4;
+        at += size;
         left -= 1;
     }
     last == rows
@@ -61,7 +73,7 @@ pub fn rows_rise(f: &[u8], big: bool, from: usize, n: usize, rows: usize) -> boo
 // Whether the index is right: its bucket numbers and its first rows.
 pub fn index_fits(f: &[u8], big: bool, h: Header, x: Index, rows: usize) -> bool
     requires { ⌜ Area (now f) (h .size) (h .count) ⌝ }
-    requires { ⌜ IndexInside (length (now f)) 4 x ⌝ }
+    requires { ⌜ IndexInside (length (now f)) x ⌝ }
     ensures { λ r. ⌜ r ≡ indexFits rows big (now (f .entry)) h x ⌝ }
 {
     if !buckets_apart(
@@ -76,5 +88,6 @@ pub fn index_fits(f: &[u8], big: bool, h: Header, x: Index, rows: usize) -> bool
     ) {
         return false;
     }
-    rows_rise(f, big, x.firsts, x.count, rows)
+    let width = Width::of_int(x.wide);
+    rows_rise(f, big, width, x.firsts, x.count, rows)
 }

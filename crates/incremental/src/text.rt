@@ -5,16 +5,18 @@ ghost use Rattle.incremental_rules.specs.Index.{indexed, indexAt};
 ghost use Rattle.incremental.specs.Bounds.{IndexInside};
 use aipsio_rules::Cursor;
 use bytes_at::Refusal;
+use bytes_at::Width;
 use incremental_rules::Index;
 
 // The index, or zeros and the refusal where the cursor is refused.
-fn answer_index(c: Cursor, count: usize, firsts: usize, buckets: usize) -> Index
-    ensures { λ r. ⌜ r ≡ indexed c count firsts buckets ⌝ }
+fn answer_index(c: Cursor, count: usize, wide: bool, firsts: usize, buckets: usize) -> Index
+    ensures { λ r. ⌜ r ≡ indexed c count wide firsts buckets ⌝ }
 {
     let refused = c.refused;
     if refused != 0 {
         return Index {
             count: 0,
+            wide: false,
             firsts: 0,
             buckets: 0,
             refused: aipsio::refusal(c),
@@ -22,6 +24,7 @@ fn answer_index(c: Cursor, count: usize, firsts: usize, buckets: usize) -> Index
     }
     Index {
         count: count,
+        wide: wide,
         firsts: firsts,
         buckets: buckets,
         refused: Refusal { number: 0, byte: 0 },
@@ -32,7 +35,7 @@ fn answer_index(c: Cursor, count: usize, firsts: usize, buckets: usize) -> Index
 // lists lie in the file.
 pub fn read_index(f: &[u8], big: bool, at: usize) -> Index
     ensures { λ r. ⌜ r ≡ indexAt (now (f .entry)) big at ⌝ }
-    ensures inside { λ r. ⌜ (r .refused .number ≡ 0 → IndexInside (length (now (f .entry))) 4 r) ⌝ }
+    ensures inside { λ r. ⌜ (r .refused .number ≡ 0 → IndexInside (length (now (f .entry))) r) ⌝ }
 {
     let start = Cursor {
         at: at,
@@ -42,10 +45,12 @@ pub fn read_index(f: &[u8], big: bool, at: usize) -> Index
     };
     let m = aipsio::numbers::mark(f, start);
     // ISMIndex
-    let o = aipsio::objects::open(f, m, 8, 0x49534d496e646578, 0x49534d496e646578, 1, 1);
+    let o = aipsio::objects::open(f, m, 8, 0x49534d496e646578, 0x49534d496e646578, 1, 2);
     let n = aipsio::numbers::uint(f, o.next);
-    let firsts = aipsio::objects::block(f, n.next, n.value + 1, 4);
+    let wide = o.value == 2;
+    let width = Width::of_int(wide);
+    let firsts = aipsio::objects::row_block(f, n.next, n.value + 1, width);
     let buckets = aipsio::objects::block(f, firsts.next, n.value, 4);
     let e = aipsio::objects::close(buckets.next, m);
-    answer_index(e, n.value, firsts.value, buckets.value)
+    answer_index(e, n.value, wide, firsts.value, buckets.value)
 }

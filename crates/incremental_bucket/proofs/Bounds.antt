@@ -6,15 +6,17 @@ use mathlib.Core.Bool.{Bool, true, false, cond}
 use Prim.Native.Nat.{ℕ, zero, suc, _+_, _≤_, zero-le}
 use native.Mathlib.Omega.{arith}
 use lib.Dec.{eqb}
-use borrow.Author.Tests.{leb-true}
+use native.Mathlib.Decide.{ℕ-discrete}
+use borrow.Author.Tests.{leb-true, eq-eqb, ne-eqb}
+use Rattle.bytes_at.specs.Number.{intBytes}
 use Rattle.bytes_at.specs.Steps.{after, _>>=_}
 use Rattle.aipsio_rules.specs.declared.Cursor.{Cursor}
 use Rattle.aipsio_rules.specs.declared.Value.{Value}
 use Rattle.aipsio_rules.specs.Field.{uintAt}
-use Rattle.aipsio_rules.proofs.Kept.{clean-before, skipped-keeps}
+use Rattle.aipsio_rules.proofs.Kept.{Clean, clean-before, skipped-keeps}
 use Rattle.aipsio_rules.proofs.Accepted.{judged-passed, judged-within}
 use Rattle.aipsio_rules.proofs.Bounds.{settled-le}
-use Rattle.incremental_rules.specs.Bucket.{offsetInto, offsetsAt, dataAt, columnPartAt, columnPartInto, columnPartsAt, bucketAt}
+use Rattle.incremental_rules.specs.Bucket.{offsetInto, offsetsAt, begun, bucketHeadAt, lowBytes, columnPartAt, columnPartInto, columnPartsAt, bucketAt}
 
 -- one of two numbers
 pub cond-le : (t : Bool) {a b m r : ℕ} → a ≤ m → b ≤ m → r ≡ cond t a b → r ≤ m
@@ -35,25 +37,29 @@ module _ (s : List ℕ) (limit : ℕ) where
   offsets-le bytes hit st zero h = h
   offsets-le bytes hit st (suc n) h = offset-le bytes hit _ n (offsets-le bytes hit st n h)
 
-  column-le : (c : Cursor) (rows row bytes : ℕ) → columnPartAt s c limit rows row bytes .value ≤ limit
+  column-le : (c : Cursor) (width rows row bytes : ℕ) → columnPartAt s c width limit rows row bytes .value ≤ limit
   unfolding columnPartAt offsetsAt _>>=_
-  column-le c rows row bytes = offsets-le bytes _ _ _ zero-le
+  column-le c width rows row bytes = offsets-le bytes _ _ _ zero-le
 
-  columns-le : (rows row column : ℕ) (bytes : List ℕ) (st : Value) (n : ℕ) → st .value ≤ limit → after (columnPartInto s limit rows row column bytes) st n .value ≤ limit
+  columns-le : (width rows row column : ℕ) (bytes : List ℕ) (st : Value) (n : ℕ) → st .value ≤ limit → after (columnPartInto s width limit rows row column bytes) st n .value ≤ limit
   unfolding after columnPartInto _>>=_
-  columns-le rows row column bytes st zero h = h
-  columns-le rows row column bytes st (suc n) h =
-      cond-le (eqb n column) (column-le _ rows row _) (columns-le rows row column bytes st n h) refl
+  columns-le width rows row column bytes st zero h = h
+  columns-le width rows row column bytes st (suc n) h =
+      cond-le (eqb n column) (column-le _ width rows row _) (columns-le width rows row column bytes st n h) refl
 
-data-le : (s : List ℕ) (c : Cursor) (size : ℕ) → dataAt s c size .value ≤ size
-unfolding dataAt _>>=_
-data-le s c size =
-    settled-le _ _ (λ e. let k = judged-within _ _ (uintAt s c .value) 4 size 10 (clean-before (skipped-keeps _ _) e) in omega arith)
+begun-le : (c : Cursor) (wide : Bool) (len : ℕ) {high : ℕ} → (Clean c → len ≤ high) → begun c wide len .len ≤ high
+unfolding begun
+begun-le c wide len h = elim (ℕ-discrete (c .refused) 0) [ yes e ↦ rw (eq-eqb (c .refused) 0 e) (h e) | no e ↦ rw (ne-eqb (c .refused) 0 e) zero-le ]
+
+head-le : (s : List ℕ) (c : Cursor) (size : ℕ) → bucketHeadAt s c size .len ≤ size
+unfolding bucketHeadAt _>>=_
+head-le s c size =
+    begun-le _ _ _ (λ e. let k = judged-within _ _ (lowBytes (uintAt s c .value)) 4 size 10 (clean-before (skipped-keeps _ _) e) in omega (arith, k .1))
 
 pub bucket-le : (f : List ℕ) (at size : ℕ) (big : Bool) (rows row column : ℕ) (bytes : List ℕ) (n : ℕ) → bucketAt f at size big rows row column bytes n .value ≤ size
 unfolding bucketAt columnPartsAt _>>=_
 bucket-le f at size big rows row column bytes n =
     let c : Cursor = record { at = at; end = at + size; big = big; refused = 0 } in
-    let l = data-le f c size in
-    let k = columns-le f (dataAt f c size .value) rows row column bytes (record { value = 0; next = dataAt f c size .next }) n zero-le in
-    omega arith
+    let h = bucketHeadAt f c size in
+    let k = columns-le f (h .len) (intBytes (h .wide)) rows row column bytes (record { value = 0; next = h .next }) n zero-le in
+    omega (arith, head-le f c size, k)

@@ -5,11 +5,13 @@ use mathlib.Core.List.{List}
 use mathlib.Core.Bool.{Bool, true, false, cond}
 use Prim.Native.Nat.{ℕ, _+_}
 use lib.Dec.{leb, eqb}
+use native.Mathlib.Decide.{ℕ-discrete}
+use borrow.Author.Tests.{eq-eqb, ne-eqb}
 use Rattle.bytes_at.specs.Steps.{_>>=_}
 use Rattle.aipsio_rules.specs.declared.Cursor.{Cursor}
-use Rattle.aipsio_rules.specs.declared.Value.{Value}
 use Rattle.aipsio_rules.specs.Field.{refusedAt, movedTo, skipped, judged, settled, uintAt}
-use Rattle.incremental_rules.specs.Bucket.{dataAt}
+use Rattle.incremental_rules.specs.declared.BucketHead.{BucketHead}
+use Rattle.incremental_rules.specs.Bucket.{begun, bucketHeadAt}
 
 either : (t : Bool) (a b : Cursor) {e : ℕ} → a .end ≡ e → b .end ≡ e → cond t a b .end ≡ e
 either true a b p q = p
@@ -27,10 +29,14 @@ uint-end : (s : List ℕ) (c : Cursor) → uintAt s c .next .end ≡ c .end
 unfolding uintAt settled _>>=_
 uint-end s c = skipped-end c 4
 
-data-end : (s : List ℕ) (c : Cursor) (size : ℕ) → dataAt s c size .next .end ≡ c .end
-unfolding dataAt settled _>>=_
-data-end s c size = skipped-end _ _ ∙ judged-end _ _ _ 11 ∙ judged-end _ _ _ 3 ∙ uint-end s c
+begun-end : (c : Cursor) (wide : Bool) (len : ℕ) → begun c wide len .next .end ≡ c .end
+unfolding begun
+begun-end c wide len = elim (ℕ-discrete (c .refused) 0) [ yes e ↦ rw (eq-eqb (c .refused) 0 e) | no e ↦ rw (ne-eqb (c .refused) 0 e) ]
 
--- of what `read_data` gave
-pub data-of-end : (s : List ℕ) (c : Cursor) (size : ℕ) {v : Value} → v ≡ dataAt s c size → v .next .end ≡ c .end
-data-of-end s c size e = ap (λ (x : Value). x .next .end) e ∙ data-end s c size
+head-end : (s : List ℕ) (c : Cursor) (size : ℕ) → bucketHeadAt s c size .next .end ≡ c .end
+unfolding bucketHeadAt _>>=_
+head-end s c size = begun-end _ _ _ ∙ skipped-end _ _ ∙ judged-end _ _ _ 11 ∙ uint-end s c
+
+-- of what `read_head` gave
+pub head-of-end : (s : List ℕ) (c : Cursor) (size : ℕ) {h : BucketHead} → h ≡ bucketHeadAt s c size → h .next .end ≡ c .end
+head-of-end s c size e = ap (λ (x : BucketHead). x .next .end) e ∙ head-end s c size

@@ -6,51 +6,58 @@ pub mod values;
 ghost use Prim.Native.Nat.{_≤_, _+_};
 ghost use lib.ListN.{length};
 ghost use mathlib.Core.Path.{_≡_};
-ghost use Rattle.incremental_rules.specs.Bucket.{dataAt, columnPartAt, columnPartsAt, bucketAt};
+ghost use Rattle.bytes_at.specs.Number.{bytesOf};
+ghost use Rattle.incremental_rules.specs.Bucket.{begun, bucketHeadAt, columnPartAt, columnPartsAt, bucketAt};
 use aipsio_rules::Cursor;
 use aipsio_rules::Value;
+use bytes_at::Width;
+use incremental_rules::BucketHead;
 
-// The index offset x of a bucket of so many bytes: how long its data part is, x - 4, and the cursor at its index part.
-fn read_data(s: &[u8], c: Cursor, size: usize) -> Value
-    requires { ⌜ c .end ≤ length (now s) ⌝ }
-    ensures { λ r. ⌜ r ≡ dataAt (now (s .entry)) c size ⌝ }
+// The beginning of a bucket, or zeros where the cursor is refused.
+fn begin(c: Cursor, wide: bool, len: usize) -> BucketHead
+    ensures { λ r. ⌜ r ≡ begun c wide len ⌝ }
 {
-    let at = c.at;
-    let end = c.end;
-    let big = c.big;
     let refused = c.refused;
     if refused != 0 {
-        return Value { value: 0, next: c };
+        return BucketHead {
+            wide: false,
+            len: 0,
+            next: c,
+        };
     }
-    let left = aipsio::left(c);
-    if left < 4 {
-        return crate::values::refuse(c, at, 1);
-    }
-    let x = bytes_at::word_there(s, at, big);
-    if 16777216 <= x {
-        return crate::values::refuse(c, at, 3);
-    }
-    if !bytes_at::within(x, 4, size) {
-        return crate::values::refuse(c, at, 11);
-    }
-    if left < x {
-        return crate::values::refuse(c, at + 4, 1);
-    }
-    Value {
-        value: x - 4,
-        next: Cursor {
-            at: at + x,
-            end: end,
-            big: big,
-            refused: 0,
-        },
+    BucketHead {
+        wide: wide,
+        len: len,
+        next: c,
     }
 }
 
-// A column's part of the index: the number of its values, their starts, their offsets. Gives the offset of the row's value.
-fn read_column(s: &[u8], c: Cursor, limit: usize, rows: usize, row: usize, bytes: usize) -> Value
+// The index offset x of a bucket of so many bytes, in the low three bytes of its first number: how long its data part is, x - 4, and
+// the cursor at its index part. The high byte tells whether its starts are Int64.
+fn read_head(s: &[u8], c: Cursor, size: usize) -> BucketHead
+    ensures { λ r. ⌜ r ≡ bucketHeadAt (now (s .entry)) c size ⌝ }
+{
+    let word = aipsio::numbers::uint(s, c);
+    let x = word.value % 16777216;
+    let ok = bytes_at::within(x, 4, size);
+    let d = aipsio::judge(word.next, c.at, ok, 11);
+    let len = bytes_at::minus(x, 4);
+    let n = aipsio::skip(d, len);
+    begin(n, 16777216 <= word.value, len)
+}
+
+// A column's part of the index: the number of its values, their starts, of the width given, their offsets. Gives the offset of the row's value.
+fn read_column(
+    s: &[u8],
+    c: Cursor,
+    width: Width,
+    limit: usize,
+    rows: usize,
+    row: usize,
+    bytes: usize,
+) -> Value
     requires { ⌜ c .end ≤ length (now s) ⌝ }
-    ensures { λ r. ⌜ r ≡ columnPartAt (now (s .entry)) c limit rows row bytes ⌝ }
+    ensures { λ r. ⌜ r ≡ columnPartAt (now (s .entry)) c (bytesOf width) limit rows row bytes ⌝ }
     ensures inside { λ r. ⌜ r .next .end ≡ c .end ⌝ }
 {
     let at = c.at;
@@ -73,7 +80,7 @@ fn read_column(s: &[u8], c: Cursor, limit: usize, rows: usize, row: usize, bytes
         big: big,
         refused: 0,
     };
-    let starts = crate::values::read_starts(s, d, n, rows, row);
+    let starts = crate::values::read_starts(s, d, width, n, rows, row);
     crate::offsets::read_offsets(s, starts.next, n, limit, bytes, starts.hit)
 }
 
@@ -81,6 +88,7 @@ fn read_column(s: &[u8], c: Cursor, limit: usize, rows: usize, row: usize, bytes
 fn read_columns(
     s: &[u8],
     c: Cursor,
+    width: Width,
     limit: usize,
     rows: usize,
     row: usize,
@@ -89,13 +97,13 @@ fn read_columns(
     n: usize,
 ) -> Value
     requires { ⌜ (n ≤ 64) × (c .end ≤ length (now s)) ⌝ }
-    ensures { λ r. ⌜ r ≡ columnPartsAt (now (s .entry)) c limit rows row column (now (bytes .entry)) n ⌝ }
+    ensures { λ r. ⌜ r ≡ columnPartsAt (now (s .entry)) c (bytesOf width) limit rows row column (now (bytes .entry)) n ⌝ }
 {
     let mut offset = 0;
     let mut next = c;
     let mut k = 0;
     while k < n {
-        let one = read_column(s, next, limit, rows, row, bytes[k]);
+        let one = read_column(s, next, width, limit, rows, row, bytes[k]);
         offset = crate::values::choose(k == column, one.value, offset);
         next = one.next;
         k += 1;
@@ -129,6 +137,7 @@ pub fn read_bucket(
         big: big,
         refused: 0,
     };
-    let limit = read_data(f, start, size);
-    read_columns(f, limit.next, limit.value, rows, row, column, bytes, n)
+    let head = read_head(f, start, size);
+    let width = Width::of_int(head.wide);
+    read_columns(f, head.next, width, head.len, rows, row, column, bytes, n)
 }

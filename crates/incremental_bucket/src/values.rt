@@ -2,12 +2,14 @@
 // their starts, and what reading their offsets shares with that.
 ghost use mathlib.Core.Path.{_≡_};
 ghost use mathlib.Core.Bool.{cond};
+ghost use Rattle.bytes_at.specs.Number.{bytesOf};
 ghost use Prim.Native.Nat.{_≤_, _<_};
 ghost use lib.ListN.{length};
 ghost use Rattle.incremental_bucket.specs.Values.{refusedValue};
 ghost use Rattle.incremental_rules.specs.Bucket.{startFits, startsAt};
 use aipsio_rules::Cursor;
 use aipsio_rules::Value;
+use bytes_at::Width;
 use incremental_rules::Starts;
 
 // The first number where the test holds, else the second.
@@ -48,10 +50,11 @@ fn start_fits(i: usize, last: usize, v: usize, rows: usize) -> bool
     last < v
 }
 
-// The n starts of a column, up to the first that is refused. No more are looked at than the bucket has room for, whatever n is.
-pub fn read_starts(s: &[u8], c: Cursor, n: usize, rows: usize, row: usize) -> Starts
+// The n starts of a column, of the width given, up to the first that is refused. No more are looked at than the bucket has room
+// for, whatever n is.
+pub fn read_starts(s: &[u8], c: Cursor, width: Width, n: usize, rows: usize, row: usize) -> Starts
     requires { ⌜ c .end ≤ length (now s) ⌝ }
-    ensures { λ r. ⌜ r ≡ startsAt (now (s .entry)) c n rows row ⌝ }
+    ensures { λ r. ⌜ r ≡ startsAt (now (s .entry)) c (bytesOf width) n rows row ⌝ }
     ensures inside { λ r. ⌜ r .next .end ≡ c .end ⌝ }
 {
     let end = c.end;
@@ -64,14 +67,15 @@ pub fn read_starts(s: &[u8], c: Cursor, n: usize, rows: usize, row: usize) -> St
             next: c,
         };
     }
-    let room = aipsio::left(c) / 4;
+    let size = width.bytes();
+    let room = aipsio::left(c) / size;
     let m = bytes_at::least(n, room);
     let mut at = c.at;
     let mut last = 0;
     let mut hit = 0;
     let mut i = 0;
     while i < m {
-        let v = bytes_at::word_there(s, at, big);
+        let v = bytes_at::number_there(s, at, big, width);
         if !start_fits(i, last, v, rows) {
             return Starts {
                 last: 0,
@@ -86,7 +90,7 @@ pub fn read_starts(s: &[u8], c: Cursor, n: usize, rows: usize, row: usize) -> St
         }
         hit = choose(v <= row, i, hit);
         last = v;
-        at += 4;
+        at += size;
         i += 1;
     }
     if m < n {

@@ -15,8 +15,8 @@ use Rattle.table_rules.specs.declared.Column.{Column}
 use Rattle.table_rules.specs.declared.Binding.{Binding}
 use Rattle.table_rules.specs.ColumnSet.{noBinding}
 use Rattle.standard_rules.specs.Header.{bucketStart}
-use Rattle.bytes_at.specs.Number.{numberIn}
 use Rattle.incremental_rules.specs.declared.Index.{Index}
+use Rattle.incremental_rules.specs.Index.{firstRow, bucketNumber}
 use Rattle.incremental_rules.specs.Bucket.{bucketAt, cellInto, cellsIn}
 use Rattle.incremental_rules.proofs.BucketAnyCell.{any-cell}
 use Rattle.incremental_rules.specs.declared.Cells.{Cells}
@@ -51,8 +51,8 @@ module _ (big : Bool) (f : List ℕ) (size : ℕ) (x : Index) where
   -- what bucket i of the index is refused with
   abbrev refusedIn : Cells → ℕ → ℕ → Refusal
   refusedIn cells row i =
-      let first = numberIn big 4 f (x .firsts) i in
-      refusalIn (bucketAt f (bucketStart size (numberIn big 4 f (x .buckets) i)) size big (numberIn big 4 f (x .firsts) (i + 1) - first) (row - first) (cells .column) (cells .bytes) (cells .count) .next)
+      let first = firstRow big f x i in
+      refusalIn (bucketAt f (bucketStart size (bucketNumber big f x i)) size big (firstRow big f x (i + 1) - first) (row - first) (cells .column) (cells .bytes) (cells .count) .next)
 
   pub turn-refused : (cells : Cells) (row : ℕ) (found : Found) (i : ℕ) → bucketInto big f size x cells row found i .refused ≡ found .refused ▷ refusedIn cells row i
   unfolding bucketInto _>>=_

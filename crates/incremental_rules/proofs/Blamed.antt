@@ -15,7 +15,7 @@ use Rattle.incremental_rules.specs.declared.Header.{Header}
 use Rattle.incremental_rules.specs.declared.Index.{Index}
 use Rattle.incremental_rules.specs.declared.Cells.{Cells}
 use Rattle.incremental_rules.specs.Header.{headed, headerAt}
-use Rattle.incremental_rules.specs.Index.{indexed, indexIn}
+use Rattle.incremental_rules.specs.Index.{indexed, indexAt}
 use Rattle.incremental_rules.specs.Check.{bucketInto, nothing, searchOf, refusalOf}
 use Rattle.incremental_rules.proofs.AnyCell.{turn-refused}
 
@@ -28,14 +28,14 @@ header-others : (s : List ℕ) (big : Bool) → OthersCarry0 (headerAt s big .re
 unfolding headerAt _>>=_
 header-others s big = headed-others _ _
 
-indexed-others : (c : Cursor) (count firsts buckets : ℕ) → OthersCarry0 (indexed c count firsts buckets .refused)
+indexed-others : (c : Cursor) (count : ℕ) (wide : Bool) (firsts buckets : ℕ) → OthersCarry0 (indexed c count wide firsts buckets .refused)
 unfolding indexed
-indexed-others c count firsts buckets =
+indexed-others c count wide firsts buckets =
     others-either (λ (x : Index). x .refused) (eqb (c .refused) 0) _ _ others-none (others-blaming (c .refused) (c .at))
 
-index-others : (s : List ℕ) (big : Bool) (each at : ℕ) → OthersCarry0 (indexIn s big each at .refused)
-unfolding indexIn _>>=_
-index-others s big each at = indexed-others _ _ _ _
+index-others : (s : List ℕ) (big : Bool) (at : ℕ) → OthersCarry0 (indexAt s big at .refused)
+unfolding indexAt _>>=_
+index-others s big at = indexed-others _ _ _ _ _
 
 module _ (big : Bool) (f : List ℕ) (size : ℕ) (x : Index) (cells : Cells) (row : ℕ) where
   turns-others : (n : ℕ) → OthersCarry0 (after (bucketInto big f size x cells row) nothing n .refused)
@@ -55,7 +55,7 @@ refusal-others d sequence f refused h =
     others-then _ _ h
     (others-then _ _ (header-others _ _)
     (others-then _ _ (others-or _ 1 _)
-    (others-then _ _ (index-others _ _ _ _)
+    (others-then _ _ (index-others _ _ _)
     (others-then _ _ (others-or _ 10 _)
     (others-then _ _ (others-or _ 11 _)
     (search-others _ _ _ _ _ _))))))

@@ -31,13 +31,13 @@ module _ (cs : List Column) (bs : List Binding) (sequence position : ℕ) where
   pub record Asked (cells : Cells) : Type 0 where
     pub known : cells .column < cells .count
     pub bytes : getD (cells .bytes) (cells .column) 0 ≡ cellBytes (getD cs position noColumn)
-    pub part : (big : Bool) (f : List ℕ) (at : ℕ) → partOf big f at (cells .column) ≡ partAt big f at bound position
+    pub part : (big : Bool) (f : List ℕ) (width at : ℕ) → partOf big f width at (cells .column) ≡ partAt big f width at bound position
 
   -- of k columns
   record Gathered (k : ℕ) (cells : Cells) : Type 0 where
     few : cells .count ≤ k
     long : length (cells .bytes) ≡ 64
-    part : (big : Bool) (f : List ℕ) (at : ℕ) → partOf big f at (cells .count) ≡ partAt big f at bound k
+    part : (big : Bool) (f : List ℕ) (width at : ℕ) → partOf big f width at (cells .count) ≡ partAt big f width at bound k
     asked : position < k → bound position ≡ true → Asked cells
 
   gathered-none : Gathered 0 noCells
@@ -45,19 +45,19 @@ module _ (cs : List Column) (bs : List Binding) (sequence position : ℕ) where
   gathered-none = record {
     few = omega arith;
     long = length-replicate {A = ℕ} 64 0;
-    part = λ big f at. refl;
+    part = λ big f width at. refl;
     asked = λ h. absurd (not-suc-le-zero h);
   }
 
   module _ (k : ℕ) (cells : Cells) (v : Gathered k cells) (l : k < 64) where
     -- one column more that is bound
-    part-on : bound k ≡ true → (big : Bool) (f : List ℕ) (at : ℕ) → partOf big f at (cells .count + 1) ≡ partAt big f at bound (suc k)
+    part-on : bound k ≡ true → (big : Bool) (f : List ℕ) (width at : ℕ) → partOf big f width at (cells .count + 1) ≡ partAt big f width at bound (suc k)
     unfolding partOf partAt
-    part-on e big f at = rw (add-one, e, v .part big f at)
+    part-on e big f width at = rw (add-one, e, v .part big f width at)
 
-    part-off : bound k ≡ false → (big : Bool) (f : List ℕ) (at : ℕ) → partOf big f at (cells .count) ≡ partAt big f at bound (suc k)
+    part-off : bound k ≡ false → (big : Bool) (f : List ℕ) (width at : ℕ) → partOf big f width at (cells .count) ≡ partAt big f width at bound (suc k)
     unfolding partAt
-    part-off e big f at = rw e (v .part big f at)
+    part-off e big f width at = rw e (v .part big f width at)
 
     asked-on : position < suc k → bound position ≡ true → Asked (cellMore (getD cs k noColumn) k position cells)
     asked-on h b =
@@ -65,7 +65,7 @@ module _ (cs : List Column) (bs : List Binding) (sequence position : ℕ) where
           | yes q ↦ rw (eq-eqb k position q) (record {
             known = omega arith;
             bytes = getD-set-same (cells .bytes) (cells .count) _ 0 (omega (arith, v .few, v .long)) ∙ ap (λ (i : ℕ). cellBytes (getD cs i noColumn)) q;
-            part = λ big f at. v .part big f at ∙ ap (partAt big f at bound) q;
+            part = λ big f width at. v .part big f width at ∙ ap (partAt big f width at bound) q;
           })
           | no q ↦
               let a = v .asked (omega arith) b in

@@ -8,11 +8,11 @@ use lib.ListN.{take, set}
 use Rattle.bytes_at.specs.Stages.{noRefusal, blaming}
 use Rattle.bytes_at.specs.Number.{bigFrom, littleFrom, uintOf, bigBytes}
 use Rattle.bytes_at.specs.Bytes.{sameBytes}
-use Rattle.bytes_at.specs.Steps.{_>>=_}
+use Rattle.bytes_at.specs.Steps.{after, _>>=_}
 use Rattle.aipsio_rules.specs.Field.{skipped, skippedEach, judged, settled, sizedAt, uintAt, rangedAt, agreed, markAt, textBefore, textAt, nameAt}
-use Rattle.aipsio_rules.specs.Object.{entered, opened, closed, blockAt}
+use Rattle.aipsio_rules.specs.Object.{entered, opened, closed, blockHeadAt, blockAt, rowsAt, rowBlockAt}
 use Rattle.incremental_rules.specs.Header.{fieldsAt, headed, headerAt}
-use Rattle.incremental_rules.specs.Index.{indexed, indexIn, indexAt}
+use Rattle.incremental_rules.specs.Index.{indexed, indexAt}
 
 -- the mark and the header object: big endian, 3 buckets of 64 bytes, bucket 2 free
 abbrev pub header : List ℕ
@@ -50,17 +50,37 @@ pub header-faults :
 unfolding bigFrom littleFrom uintOf sameBytes skipped judged settled sizedAt uintAt rangedAt markAt textBefore textAt nameAt entered opened closed fieldsAt headed headerAt _>>=_
 header-faults = (refl, refl, refl, refl, refl, refl, refl, refl)
 
-pub index-read : indexAt (object ++ (0 ∷ [])) true 0 ≡ record { count = 2; firsts = 49; buckets = 82; refused = noRefusal }
-unfolding bigFrom uintOf sameBytes skipped skippedEach judged settled sizedAt uintAt rangedAt agreed markAt textBefore textAt nameAt entered opened closed blockAt indexed indexIn _>>=_
+pub index-read : indexAt (object ++ (0 ∷ [])) true 0 ≡ record { count = 2; wide = false; firsts = 49; buckets = 82; refused = noRefusal }
+unfolding bigFrom uintOf sameBytes skipped skippedEach judged settled sizedAt uintAt rangedAt agreed markAt textBefore textAt nameAt entered opened closed blockHeadAt blockAt rowsAt rowBlockAt indexed indexAt after _>>=_
 index-read = refl
 
--- a file that ends in the last Block; a place past its end; version 2; a count that the Blocks do not have; an object that is
--- longer than its fields
+-- a file that ends in the last Block; a place past its end; version 2, whose second first row passes the Block's end; version 3; a
+-- count that the Blocks do not have; an object that is longer than its fields
 pub index-faults :
     (indexAt (take 89 object) true 0 .refused ≡ blaming 1 4)
     × (indexAt object true 91 .refused ≡ blaming 1 91)
-    × (indexAt (set object 23 2) true 0 .refused ≡ blaming 3 20)
+    × (indexAt (set object 23 2) true 0 .refused ≡ blaming 1 57)
+    × (indexAt (set object 23 3) true 0 .refused ≡ blaming 3 20)
     × (indexAt (set object 27 3) true 0 .refused ≡ blaming 6 45)
     × (indexAt (set object 7 87 ++ (0 ∷ [])) true 0 .refused ≡ blaming 7 4)
-unfolding bigFrom uintOf sameBytes skipped skippedEach judged settled sizedAt uintAt rangedAt agreed markAt textBefore textAt nameAt entered opened closed blockAt indexed indexIn _>>=_
-index-faults = (refl, refl, refl, refl, refl)
+unfolding bigFrom uintOf sameBytes skipped skippedEach judged settled sizedAt uintAt rangedAt agreed markAt textBefore textAt nameAt entered opened closed blockHeadAt blockAt rowsAt rowBlockAt indexed indexAt after _>>=_
+index-faults = (refl, refl, refl, refl, refl, refl)
+
+-- the same index with first rows of 8 bytes, version 2
+abbrev pub wideObject : List ℕ
+wideObject =
+    bigBytes 16 0xbebebebe000000620000000849534d49
+    ++ bigBytes 16 0x6e64657800000002000000020000002d
+    ++ bigBytes 17 0x00000005426c6f636b0000000100000003
+    ++ bigBytes 24 0x000000000000000000000000000000030000000000000007
+    ++ bigBytes 17 0x0000001d00000005426c6f636b00000001
+    ++ bigBytes 12 0x000000020000000100000000
+
+-- it is read; a negative first row; a last one that passes the Block's end; both, of which the first in the file counts
+pub wide-index :
+    (indexAt wideObject true 0 ≡ record { count = 2; wide = true; firsts = 49; buckets = 94; refused = noRefusal })
+    × (indexAt (set wideObject 57 128) true 0 .refused ≡ blaming 4 57)
+    × (indexAt (set wideObject 31 44) true 0 .refused ≡ blaming 1 65)
+    × (indexAt (set (set wideObject 31 44) 57 128) true 0 .refused ≡ blaming 4 57)
+unfolding bigFrom uintOf sameBytes skipped skippedEach judged settled sizedAt uintAt rangedAt agreed markAt textBefore textAt nameAt entered opened closed blockHeadAt blockAt rowsAt rowBlockAt indexed indexAt after _>>=_
+wide-index = (refl, refl, refl, refl)

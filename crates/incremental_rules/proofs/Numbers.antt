@@ -10,7 +10,7 @@ use native.Mathlib.Omega.{arith}
 use lib.ListN.{length, getD}
 use lib.Dec.{T, ltb, eqb, ltb→lt, lt→ltb, eqb→eq, eqb-refl}
 use store.Enc.{and-l, and-r}
-use Rattle.bytes_at.specs.Number.{uintOf, numbersAt}
+use Rattle.bytes_at.specs.Number.{intBytes, uintOf, numbersAt}
 use Rattle.bytes_at.specs.Lists.{allApart}
 use Rattle.bytes_at.proofs.Tests.{both}
 use Rattle.bytes_at.proofs.Apart.{one-place, apart-different, apart-joined, front-apart, front-below, front-back, apart-across}
@@ -40,11 +40,15 @@ module _ (rows : ℕ) where
   rises-yes last (x ∷ xs) h e = both (ltb last x) _ (lt→ltb last x (h 0 (omega arith))) (rises-yes x xs (λ i k. h (suc i) (omega arith)) e)
 
 module _ (rows : ℕ) (big : Bool) (f : List ℕ) (h : Header) (x : Index) where
+  -- how many bytes a first row has
+  abbrev each : ℕ
+  each = intBytes (x .wide)
+
   abbrev numbers : List ℕ
   numbers = numbersAt big 4 f (x .buckets) (x .count)
 
   abbrev firsts : ℕ → List ℕ
-  firsts n = numbersAt big 4 f (x .firsts) n
+  firsts n = numbersAt big each f (x .firsts) n
 
   number-is : (i : ℕ) → i < x .count → getD numbers i 0 ≡ bucketNumber big f x i
   number-is i l = number-at big 4 f (x .buckets) (x .count) i l
@@ -53,7 +57,7 @@ module _ (rows : ℕ) (big : Bool) (f : List ℕ) (h : Header) (x : Index) where
   known l = rw (numbers-length big 4 f (x .buckets) (x .count)) l
 
   first-is : (n i : ℕ) → i < n → getD (firsts n) i 0 ≡ firstRow big f x i
-  first-is n i l = number-at big 4 f (x .firsts) n i l
+  first-is n i l = number-at big each f (x .firsts) n i l
 
   -- ---- the test says what the sentence does
   module _ (t : T (indexFits rows big f h x)) where
@@ -69,9 +73,9 @@ module _ (rows : ℕ) (big : Bool) (f : List ℕ) (h : Header) (x : Index) where
     unfolding firstsFit numbersAt
     index-read =
         let n = x .count in
-        let first = uintOf big 4 f (x .firsts) in
-        let rest = numbersAt big 4 f (x .firsts + 4) n in
-        let long : length rest ≡ n = numbers-length big 4 f (x .firsts + 4) n in
+        let first = uintOf big each f (x .firsts) in
+        let rest = numbersAt big each f (x .firsts + each) n in
+        let long : length rest ≡ n = numbers-length big each f (x .firsts + each) n in
         let rises : T (risesTo rows first rest) = and-r (eqb first 0) _ rising in
         record {
           in-range = λ i l. rw (number-is i l) at (front-below (h .count) numbers (freeBuckets f h) apart i (known l));
@@ -103,9 +107,9 @@ module _ (rows : ℕ) (big : Bool) (f : List ℕ) (h : Header) (x : Index) where
     unfolding firstsFit numbersAt
     firsts-good =
         let n = x .count in
-        let first = uintOf big 4 f (x .firsts) in
-        let rest = numbersAt big 4 f (x .firsts + 4) n in
-        let long : length rest ≡ n = numbers-length big 4 f (x .firsts + 4) n in
+        let first = uintOf big each f (x .firsts) in
+        let rest = numbersAt big each f (x .firsts + each) n in
+        let long : length rest ≡ n = numbers-length big each f (x .firsts + each) n in
         both (eqb first 0) (risesTo rows first rest)
         (rw (first-is (suc n) 0 (omega arith) ∙ a .from-zero) (eqb-refl 0))
         (rises-yes rows first rest

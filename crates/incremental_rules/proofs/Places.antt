@@ -26,7 +26,7 @@ use Rattle.incremental_rules.proofs.Accepted.{InBucket, bucket-read}
 use Rattle.incremental_rules.specs.declared.Cells.{Cells}
 use Rattle.incremental_rules.specs.declared.Found.{Found}
 use Rattle.incremental_rules.specs.Index.{firstRow, bucketNumber, indexOf, IndexAccepted}
-use Rattle.incremental_rules.specs.Bucket.{cellBytes, cellsOf, indexOffset}
+use Rattle.incremental_rules.specs.Bucket.{cellBytes, cellsOf, indexOffset, startBytes}
 use Rattle.incremental_rules.specs.Check.{searchOf, refusalOf, firstBit, checkedAs}
 use Rattle.incremental_rules.proofs.AnyCell.{cells-same, search-same}
 use Rattle.incremental_rules.proofs.Columns.{Asked, asked-is}
@@ -63,8 +63,12 @@ module _ (d : Description) (sequence : ℕ) (f : List ℕ) (refused : Refusal) (
     abbrev start : ℕ
     start = bucketStart (header .size) (bucketNumber (d .big) f index entry)
 
+    -- how many bytes the starts of its bucket have
+    abbrev width : ℕ
+    width = startBytes (d .big) f start
+
     abbrev offset : ℕ
-    offset = offsetIn (d .big) f (partAt (d .big) f (start + indexOffset (d .big) f start) (isBound d sequence) position) (row - firstRow (d .big) f index entry)
+    offset = offsetIn (d .big) f width (partAt (d .big) f width (start + indexOffset (d .big) f start) (isBound d sequence) position) (row - firstRow (d .big) f index entry)
 
     asked : Asked (d .columns) (d .bindings) sequence position cells
     asked = asked-is (d .columns) (d .bindings) sequence position (d .«column_count») few known bound
@@ -82,7 +86,7 @@ module _ (d : Description) (sequence : ℕ) (f : List ℕ) (refused : Refusal) (
     offset-is : bucketIn (d .big) f (header .size) index cells row entry .value ≡ offset
     offset-is =
         in-bucket .value (asked .known)
-        ∙ ap (λ (p : ℕ). offsetIn (d .big) f p (row - firstRow (d .big) f index entry)) (asked .part (d .big) f (start + indexOffset (d .big) f start))
+        ∙ ap (λ (p : ℕ). offsetIn (d .big) f width p (row - firstRow (d .big) f index entry)) (asked .part (d .big) f width (start + indexOffset (d .big) f start))
 
     -- the check finds the cell where its place is
     pub found-there : firstBit found ≡ placeOf d sequence f position row .first

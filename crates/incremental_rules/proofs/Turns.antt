@@ -20,7 +20,7 @@ use Rattle.bytes_at.proofs.Stepped.{via}
 use Rattle.aipsio_rules.specs.declared.Cursor.{Cursor}
 use Rattle.aipsio_rules.specs.declared.Value.{Value}
 use Rattle.aipsio_rules.specs.Field.{refusedAt, movedTo, leftIn, uintAt}
-use Rattle.aipsio_rules.proofs.Kept.{Clean, Refused, refused-reads, judged-keeps, settled-none, uint-reads}
+use Rattle.aipsio_rules.proofs.Kept.{Clean, Refused, refused-reads, judged-keeps, settled-none, sized-reads, uint-reads}
 use Rattle.aipsio_rules.proofs.Sides.{judge-on, judge-refused, settle-on}
 use Rattle.aipsio_rules.proofs.Ways.{sized-short, sized-on}
 use Rattle.aipsio_rules.proofs.Accepted.{uint-is}
@@ -39,7 +39,7 @@ leb-minus v b d h =
 pub same : (c : Cursor) → Clean c → record { at = c .at; end = c .end; big = c .big; refused = 0 } ≡ c
 same c h = ap (λ (x : ℕ). record { at = c .at; end = c .end; big = c .big; refused = x }) (sym h)
 
--- ---- one number
+-- ---- a uInt
 module _ (s : List ℕ) (c : Cursor) (h : Clean c) {left : ℕ} (e : left ≡ leftIn c) where
   pub number-short : left < 4 → record { value = 0; next = refusedAt c (c .at) 1 } ≡ uintAt s c
   number-short l = sized-short s c h e refl l refl ∙ sym (uint-is s c)
@@ -57,63 +57,64 @@ module _ (c : Cursor) (last hit : ℕ) where
   unfolding started
   started-off h = rw (ne-eqb (c .refused) 0 h)
 
-module _ (s : List ℕ) (rows row : ℕ) where
-  module _ (st : Starts) (i : ℕ) (h : Clean (st .next)) {left : ℕ} (e : left ≡ leftIn (st .next)) where
-    pub start-short : left < 4 → record { last = 0; hit = 0; next = refusedAt (st .next) (st .next .at) 1 } ≡ startInto s rows row st i
+module _ (s : List ℕ) (width rows row : ℕ) where
+  -- `size` is the width as the code has it
+  module _ (st : Starts) (i : ℕ) (h : Clean (st .next)) {left size : ℕ} (e : left ≡ leftIn (st .next)) (w : size ≡ width) where
+    pub start-short : left < size → record { last = 0; hit = 0; next = refusedAt (st .next) (st .next .at) 1 } ≡ startInto s width rows row st i
     unfolding startInto
     start-short l =
-        via _ (number-short s (st .next) h e l) (
+        via _ (sized-short s (st .next) h e w l refl) (
         via _ refl (
         via _ (sym (judged-keeps (refusedAt (st .next) (st .next .at) 1) (st .next .at) _ 11 .stays (λ z. omega arith))) (
         via _ refl (
         started-off _ _ _ (λ z. omega arith)))))
 
-    module _ {v : ℕ} (l : 4 ≤ left) (q : v ≡ uintOf (st .next .big) 4 s (st .next .at)) {ok : Bool} (t : ok ≡ startFits i (st .last) v rows) where
-      pub start-wrong : ok ≡ false → record { last = 0; hit = 0; next = refusedAt (st .next) (st .next .at) 11 } ≡ startInto s rows row st i
+    module _ {v : ℕ} (l : size ≤ left) (q : v ≡ uintOf (st .next .big) width s (st .next .at)) {ok : Bool} (t : ok ≡ startFits i (st .last) v rows) where
+      pub start-wrong : ok ≡ false → record { last = 0; hit = 0; next = refusedAt (st .next) (st .next .at) 11 } ≡ startInto s width rows row st i
       unfolding startInto
       start-wrong z =
-          via _ (number-on s (st .next) h e l q) (
+          via _ (sized-on s (st .next) h e w l q) (
           via _ t (
-          via _ (judge-refused (movedTo (st .next) (st .next .at + 4)) refl (st .next .at) ok 11 z) (
+          via _ (judge-refused (movedTo (st .next) (st .next .at + size)) refl (st .next .at) ok 11 z) (
           via _ refl (
           started-off _ _ _ (λ y. omega arith)))))
 
       pub start-on : {hit : ℕ} → ok ≡ true → hit ≡ cond (leb v row) i (st .hit)
-          → record { last = v; hit = hit; next = movedTo (st .next) (st .next .at + 4) } ≡ startInto s rows row st i
+          → record { last = v; hit = hit; next = movedTo (st .next) (st .next .at + size) } ≡ startInto s width rows row st i
       unfolding startInto
       start-on z p =
-          via _ (number-on s (st .next) h e l q) (
+          via _ (sized-on s (st .next) h e w l q) (
           via _ t (
-          via _ (judge-on (movedTo (st .next) (st .next .at + 4)) refl (st .next .at) ok 11 z) (
+          via _ (judge-on (movedTo (st .next) (st .next .at + size)) refl (st .next .at) ok 11 z) (
           via _ p (
           started-on _ _ _ refl))))
 
-  starts-still : (c : Cursor) → Refused c → (j : ℕ) → startInto s rows row (record { last = 0; hit = 0; next = c }) j ≡ record { last = 0; hit = 0; next = c }
+  starts-still : (c : Cursor) → Refused c → (j : ℕ) → startInto s width rows row (record { last = 0; hit = 0; next = c }) j ≡ record { last = 0; hit = 0; next = c }
   unfolding startInto
   starts-still c h j =
       sym (
-      via _ (sym (refused-reads (uint-reads s c) h)) (
+      via _ (sym (refused-reads (sized-reads s c width) h)) (
       via _ refl (
       via _ (sym (judged-keeps c _ _ 11 .stays h)) (
       via _ refl (
       started-off _ _ _ h)))))
 
   module _ (c : Cursor) (n : ℕ) where
-    pub starts-none : Refused c → record { last = 0; hit = 0; next = c } ≡ startsAt s c n rows row
+    pub starts-none : Refused c → record { last = 0; hit = 0; next = c } ≡ startsAt s c width n rows row
     unfolding startsAt
     starts-none h = after-stop _ _ 0 n (after-none _ _) zero-le (starts-still c h)
 
     module _ (h : Clean c) (i : ℕ) {st : Starts}
-        (v : st ≡ after (startInto s rows row) (record { last = 0; hit = 0; next = record { at = c .at; end = c .end; big = c .big; refused = 0 } }) i) where
-      from-c : st ≡ after (startInto s rows row) (record { last = 0; hit = 0; next = c }) i
-      from-c = v ∙ ap (λ (x : Cursor). after (startInto s rows row) (record { last = 0; hit = 0; next = x }) i) (same c h)
+        (v : st ≡ after (startInto s width rows row) (record { last = 0; hit = 0; next = record { at = c .at; end = c .end; big = c .big; refused = 0 } }) i) where
+      from-c : st ≡ after (startInto s width rows row) (record { last = 0; hit = 0; next = c }) i
+      from-c = v ∙ ap (λ (x : Cursor). after (startInto s width rows row) (record { last = 0; hit = 0; next = x }) i) (same c h)
 
-      pub starts-stop : {d : Cursor} → i < n → Refused d → record { last = 0; hit = 0; next = d } ≡ startInto s rows row st i
-          → record { last = 0; hit = 0; next = d } ≡ startsAt s c n rows row
+      pub starts-stop : {d : Cursor} → i < n → Refused d → record { last = 0; hit = 0; next = d } ≡ startInto s width rows row st i
+          → record { last = 0; hit = 0; next = d } ≡ startsAt s c width n rows row
       unfolding startsAt
       starts-stop {d} l g q = after-stop _ _ (i + 1) n (after-more _ _ i from-c q) (omega arith) (starts-still d g)
 
-      pub starts-all : i ≤ n → n ≤ i → st ≡ startsAt s c n rows row
+      pub starts-all : i ≤ n → n ≤ i → st ≡ startsAt s c width n rows row
       unfolding startsAt
       starts-all a b = after-all _ _ i n from-c a b
 

@@ -9,7 +9,7 @@ use mathlib.Core.List.{List}
 use mathlib.Core.Bool.{Bool, true, false, cond, false≢true}
 use Prim.Native.Nat.{ℕ, zero, suc, _+_, _*_, _≤_, _<_}
 use native.Mathlib.Decide.{ℕ-discrete}
-use native.Mathlib.Nat.{not-suc-le-zero}
+use native.Mathlib.Nat.{not-suc-le-zero, suc-mul}
 use native.Mathlib.Omega.{arith}
 use lib.Dec.{leb, eqb}
 use borrow.Author.Tests.{leb-true, leb-false, ltb-true, eqb-true, eq-eqb, ne-eqb, le-leb, lt-leb, lt-ltb}
@@ -17,9 +17,10 @@ use Rattle.bytes_at.specs.Number.{uintOf}
 use Rattle.bytes_at.specs.Steps.{after, _>>=_}
 use Rattle.aipsio_rules.specs.declared.Cursor.{Cursor}
 use Rattle.aipsio_rules.specs.declared.Value.{Value}
-use Rattle.aipsio_rules.specs.Field.{movedTo, leftIn, judged, settled, uintAt}
-use Rattle.aipsio_rules.proofs.Kept.{Clean, clean-before, uint-reads, judged-keeps, _⨟_}
+use Rattle.aipsio_rules.specs.Field.{movedTo, leftIn, judged, settled, sizedAt, uintAt}
+use Rattle.aipsio_rules.proofs.Kept.{Clean, clean-before, sized-reads, uint-reads, judged-keeps, _⨟_}
 use Rattle.aipsio_rules.proofs.Sides.{judge-on}
+use Rattle.aipsio_rules.proofs.Ways.{sized-on}
 use Rattle.aipsio_rules.proofs.Accepted.{judged-passed, sized-fits, uint-is}
 use Rattle.incremental_rules.specs.declared.Starts.{Starts}
 use Rattle.incremental_rules.specs.Bucket.{startFits, started, startInto, offsetInto}
@@ -64,33 +65,34 @@ started-next c last hit =
       | no h ↦ rw (← (started-off c last hit h))
     ]
 
--- ---- the cursor past n numbers
-abbrev pub past : Cursor → ℕ → Cursor
-past c n = movedTo c (c .at + n * 4)
+-- ---- the cursor past n numbers of so many bytes
+module _ (w : ℕ) where
+  abbrev pub past : Cursor → ℕ → Cursor
+  past c n = movedTo c (c .at + n * w)
 
-past-none : (c : Cursor) → Clean c → c ≡ past c 0
-past-none c h = let z : c .at ≡ c .at + 0 * 4 = omega arith in sym (same c h) ∙ ap (movedTo c) z
+  past-none : (c : Cursor) → Clean c → c ≡ past c 0
+  past-none c h = let z : c .at ≡ c .at + 0 * w = omega arith in sym (same c h) ∙ ap (movedTo c) z
 
-past-more : (c d : Cursor) (n : ℕ) → d ≡ past c n → movedTo d (d .at + 4) ≡ past c (suc n)
-past-more c d n e =
-    let z : c .at + n * 4 + 4 ≡ c .at + suc n * 4 = omega arith in
-    ap (λ (x : Cursor). movedTo x (x .at + 4)) e ∙ ap (movedTo c) z
+  past-more : (c d : Cursor) (n : ℕ) → d ≡ past c n → movedTo d (d .at + w) ≡ past c (suc n)
+  past-more c d n e =
+      let z : c .at + n * w + w ≡ c .at + suc n * w = omega (arith, suc-mul n w) in
+      ap (λ (x : Cursor). movedTo x (x .at + w)) e ∙ ap (movedTo c) z
 
-past-room : (c d : Cursor) (n : ℕ) → d ≡ past c n → 4 ≤ leftIn d → suc n * 4 ≤ leftIn c
-past-room c d n e l = omega (arith, ap (λ (x : Cursor). x .at) e, ap (λ (x : Cursor). x .end) e)
+  past-room : (c d : Cursor) (n : ℕ) → d ≡ past c n → n * w ≤ leftIn c → w ≤ leftIn d → suc n * w ≤ leftIn c
+  past-room c d n e r l = omega (arith, suc-mul n w, ap (λ (x : Cursor). x .at) e, ap (λ (x : Cursor). x .end) e)
 
-room-past : (c d : Cursor) (n : ℕ) → d ≡ past c n → suc n * 4 ≤ leftIn c → 4 ≤ leftIn d
-room-past c d n e l = omega (arith, ap (λ (x : Cursor). x .at) e, ap (λ (x : Cursor). x .end) e)
+  room-past : (c d : Cursor) (n : ℕ) → d ≡ past c n → suc n * w ≤ leftIn c → w ≤ leftIn d
+  room-past c d n e l = omega (arith, suc-mul n w, ap (λ (x : Cursor). x .at) e, ap (λ (x : Cursor). x .end) e)
 
 module _ (s : List ℕ) where
   -- ---- n starts and n offsets from a cursor on: one that is refused stays so
-  module _ (rows row : ℕ) where
+  module _ (width rows row : ℕ) where
     abbrev pub startsFrom : Cursor → ℕ → Starts
-    startsFrom c n = after (startInto s rows row) (record { last = 0; hit = 0; next = c }) n
+    startsFrom c n = after (startInto s width rows row) (record { last = 0; hit = 0; next = c }) n
 
-    start-clean : (st : Starts) (i : ℕ) → Clean (startInto s rows row st i .next) → Clean (st .next)
+    start-clean : (st : Starts) (i : ℕ) → Clean (startInto s width rows row st i .next) → Clean (st .next)
     unfolding startInto _>>=_
-    start-clean st i e = clean-before (uint-reads s (st .next) .keeps ⨟ judged-keeps _ _ _ 11) (rw started-next at e)
+    start-clean st i e = clean-before (sized-reads s (st .next) width .keeps ⨟ judged-keeps _ _ _ 11) (rw started-next at e)
 
     pub starts-clean : (c : Cursor) (n : ℕ) → Clean (startsFrom c n .next) → Clean c
     unfolding after
@@ -111,11 +113,11 @@ module _ (s : List ℕ) where
     offsets-clean c (suc n) e = offsets-clean c n (offset-clean _ n e)
 
 module _ (s : List ℕ) (big : Bool) where
-  -- number i of those from a cursor on
-  abbrev word : Cursor → ℕ → ℕ
-  word c i = uintOf big 4 s (c .at + i * 4)
+  -- number i of those from a cursor on, of so many bytes
+  abbrev numberOf : ℕ → Cursor → ℕ → ℕ
+  numberOf w c i = uintOf big w s (c .at + i * w)
 
-  -- ---- a number
+  -- ---- a uInt
   pub uint-room : (c : Cursor) → Clean (uintAt s c .next) → (Clean c) × (4 ≤ leftIn c)
   uint-room c e = sized-fits s c 4 (rw (uint-is s c) at e)
 
@@ -123,53 +125,59 @@ module _ (s : List ℕ) (big : Bool) where
       → uintAt s c ≡ record { value = uintOf big 4 s (c .at); next = movedTo c (c .at + 4) }
   uint-on c o h l = sym (number-on s c h refl l (ap (λ (b : Bool). uintOf b 4 s (c .at)) (sym o)))
 
-  -- a number that is judged: it is there, and passed the test
-  pub record Judged (c : Cursor) (test : ℕ → Bool) : Type 0 where
-    pub clean : Clean c
-    pub room : 4 ≤ leftIn c
-    pub value : uintAt s c .value ≡ uintOf big 4 s (c .at)
-    pub next : judged (uintAt s c .next) (c .at) (test (uintAt s c .value)) 11 ≡ movedTo c (c .at + 4)
-    pub passed : test (uintOf big 4 s (c .at)) ≡ true
+  -- ---- a number of so many bytes
+  module _ (w : ℕ) where
+    number-is : (c : Cursor) → c .big ≡ big → Clean c → w ≤ leftIn c
+        → sizedAt s c w ≡ record { value = uintOf big w s (c .at); next = movedTo c (c .at + w) }
+    number-is c o h l = sym (sized-on s c h refl refl l (ap (λ (b : Bool). uintOf b w s (c .at)) (sym o)))
 
-  pub judged-on : (c : Cursor) (test : ℕ → Bool) → c .big ≡ big → Clean c → 4 ≤ leftIn c
-      → test (uintOf big 4 s (c .at)) ≡ true → Judged c test
-  judged-on c test o h l p =
-      let u = uint-on c o h l in
-      record {
-        clean = h;
-        room = l;
-        value = ap (λ (x : Value). x .value) u;
-        next = rw u (sym (judge-on (movedTo c (c .at + 4)) refl (c .at) (test (uintOf big 4 s (c .at))) 11 p));
-        passed = p;
-      }
+    -- one that is judged: it is there, and passed the test
+    pub record Judged (c : Cursor) (test : ℕ → Bool) : Type 0 where
+      pub clean : Clean c
+      pub room : w ≤ leftIn c
+      pub value : sizedAt s c w .value ≡ uintOf big w s (c .at)
+      pub next : judged (sizedAt s c w .next) (c .at) (test (sizedAt s c w .value)) 11 ≡ movedTo c (c .at + w)
+      pub passed : test (uintOf big w s (c .at)) ≡ true
 
-  pub judged-read : (c : Cursor) (test : ℕ → Bool) → c .big ≡ big
-      → Clean (judged (uintAt s c .next) (c .at) (test (uintAt s c .value)) 11) → Judged c test
-  judged-read c test o e =
-      let p = judged-passed (uintAt s c .next) (c .at) (test (uintAt s c .value)) 10 e in
-      let r = uint-room c (p .0) in
-      judged-on c test o (r .0) (r .1) (sym (ap (λ (x : Value). test (x .value)) (uint-on c o (r .0) (r .1))) ∙ p .1)
+    pub judged-on : (c : Cursor) (test : ℕ → Bool) → c .big ≡ big → Clean c → w ≤ leftIn c
+        → test (uintOf big w s (c .at)) ≡ true → Judged c test
+    judged-on c test o h l p =
+        let u = number-is c o h l in
+        record {
+          clean = h;
+          room = l;
+          value = ap (λ (x : Value). x .value) u;
+          next = rw u (sym (judge-on (movedTo c (c .at + w)) refl (c .at) (test (uintOf big w s (c .at))) 11 p));
+          passed = p;
+        }
+
+    pub judged-read : (c : Cursor) (test : ℕ → Bool) → c .big ≡ big
+        → Clean (judged (sizedAt s c w .next) (c .at) (test (sizedAt s c w .value)) 11) → Judged c test
+    judged-read c test o e =
+        let p = judged-passed (sizedAt s c w .next) (c .at) (test (sizedAt s c w .value)) 10 e in
+        let r = sized-fits s c w (p .0) in
+        judged-on c test o (r .0) (r .1) (sym (ap (λ (x : Value). test (x .value)) (number-is c o (r .0) (r .1))) ∙ p .1)
 
   -- ---- starts
-  module _ (rows row : ℕ) where
+  module _ (width rows row : ℕ) where
     abbrev fitting : Starts → ℕ → ℕ → Bool
     fitting st i x = startFits i (st .last) x rows
 
-    start-judged : (st : Starts) (i : ℕ) → st .next .big ≡ big → Clean (startInto s rows row st i .next) → Judged (st .next) (fitting st i)
+    start-judged : (st : Starts) (i : ℕ) → st .next .big ≡ big → Clean (startInto s width rows row st i .next) → Judged width (st .next) (fitting st i)
     unfolding startInto _>>=_
-    start-judged st i o e = judged-read (st .next) (fitting st i) o (rw started-next at e)
+    start-judged st i o e = judged-read width (st .next) (fitting st i) o (rw started-next at e)
 
     record StartStep (st : Starts) (i : ℕ) (new : Starts) : Type 0 where
-      room : 4 ≤ leftIn (st .next)
-      next : new .next ≡ movedTo (st .next) (st .next .at + 4)
-      last : new .last ≡ uintOf big 4 s (st .next .at)
-      fits : fitting st i (uintOf big 4 s (st .next .at)) ≡ true
-      hit : new .hit ≡ cond (leb (uintOf big 4 s (st .next .at)) row) i (st .hit)
+      room : width ≤ leftIn (st .next)
+      next : new .next ≡ movedTo (st .next) (st .next .at + width)
+      last : new .last ≡ uintOf big width s (st .next .at)
+      fits : fitting st i (uintOf big width s (st .next .at)) ≡ true
+      hit : new .hit ≡ cond (leb (uintOf big width s (st .next .at)) row) i (st .hit)
 
-    start-from : (st : Starts) (i : ℕ) → Judged (st .next) (fitting st i) → StartStep st i (startInto s rows row st i)
+    start-from : (st : Starts) (i : ℕ) → Judged width (st .next) (fitting st i) → StartStep st i (startInto s width rows row st i)
     unfolding startInto _>>=_
     start-from st i j =
-        let v = uintAt s (st .next) in
+        let v = sizedAt s (st .next) width in
         let n = judged (v .next) (st .next .at) (fitting st i (v .value)) 11 in
         let hit = cond (leb (v .value) row) i (st .hit) in
         let h : Clean n = ap (λ (x : Cursor). x .refused) (j .next) in
@@ -183,24 +191,24 @@ module _ (s : List ℕ) (big : Bool) where
 
     -- n starts from a cursor on; `hit` is the last of them that is not above the row
     pub record StartsRead (c : Cursor) (n : ℕ) (st : Starts) : Type 0 where
-      pub room : n * 4 ≤ leftIn c
-      pub next : st .next ≡ past c n
-      pub last : st .last ≡ before (word c) n
-      pub fits : (i : ℕ) → i < n → startFits i (before (word c) i) (word c i) rows ≡ true
-      pub hit : st .hit ≡ lastBelow (λ (i : ℕ). leb (word c i) row) n
+      pub room : n * width ≤ leftIn c
+      pub next : st .next ≡ past width c n
+      pub last : st .last ≡ before (numberOf width c) n
+      pub fits : (i : ℕ) → i < n → startFits i (before (numberOf width c) i) (numberOf width c i) rows ≡ true
+      pub hit : st .hit ≡ lastBelow (λ (i : ℕ). leb (numberOf width c i) row) n
 
     starts-none : (c : Cursor) → Clean c → StartsRead c 0 (record { last = 0; hit = 0; next = c })
     unfolding lastBelow
-    starts-none c h = record { room = omega arith; next = past-none c h; last = refl; fits = λ i l. absurd (not-suc-le-zero l); hit = refl }
+    starts-none c h = record { room = omega arith; next = past-none width c h; last = refl; fits = λ i l. absurd (not-suc-le-zero l); hit = refl }
 
     starts-from : (c : Cursor) (n : ℕ) (st : Starts) {new : Starts} → StartsRead c n st → StartStep st n new → StartsRead c (suc n) new
     unfolding lastBelow
     starts-from c n st {new} v t =
-        let at : st .next .at ≡ c .at + n * 4 = ap (λ (x : Cursor). x .at) (v .next) in
+        let at : st .next .at ≡ c .at + n * width = ap (λ (x : Cursor). x .at) (v .next) in
         record {
-          room = past-room c (st .next) n (v .next) (t .room);
-          next = t .next ∙ past-more c (st .next) n (v .next);
-          last = t .last ∙ ap (uintOf big 4 s) at;
+          room = past-room width c (st .next) n (v .next) (v .room) (t .room);
+          next = t .next ∙ past-more width c (st .next) n (v .next);
+          last = t .last ∙ ap (uintOf big width s) at;
           fits = λ i l. elim (ℕ-discrete i n) [
             | yes q ↦ rw q (rw (v .last, at) at (t .fits))
             | no q ↦ v .fits i (omega arith)
@@ -208,26 +216,26 @@ module _ (s : List ℕ) (big : Bool) where
           hit = t .hit ∙ rw (at, v .hit);
         }
 
-    pub starts-read : (c : Cursor) (n : ℕ) → c .big ≡ big → Clean (startsFrom s rows row c n .next)
-        → StartsRead c n (startsFrom s rows row c n)
+    pub starts-read : (c : Cursor) (n : ℕ) → c .big ≡ big → Clean (startsFrom s width rows row c n .next)
+        → StartsRead c n (startsFrom s width rows row c n)
     unfolding after
     starts-read c zero o e = starts-none c e
     starts-read c (suc n) o e =
-        let st = startsFrom s rows row c n in
-        let v = starts-read c n o (start-clean s rows row st n e) in
+        let st = startsFrom s width rows row c n in
+        let v = starts-read c n o (start-clean s width rows row st n e) in
         starts-from c n st v (start-from st n (start-judged st n (ap (λ (x : Cursor). x .big) (v .next) ∙ o) e))
 
-    pub starts-on : (c : Cursor) (n : ℕ) → c .big ≡ big → Clean c → n * 4 ≤ leftIn c
-        → ((i : ℕ) → i < n → startFits i (before (word c) i) (word c i) rows ≡ true) → StartsRead c n (startsFrom s rows row c n)
+    pub starts-on : (c : Cursor) (n : ℕ) → c .big ≡ big → Clean c → n * width ≤ leftIn c
+        → ((i : ℕ) → i < n → startFits i (before (numberOf width c) i) (numberOf width c i) rows ≡ true) → StartsRead c n (startsFrom s width rows row c n)
     unfolding after
     starts-on c zero o h l f = starts-none c h
     starts-on c (suc n) o h l f =
-        let st = startsFrom s rows row c n in
-        let v = starts-on c n o h (omega arith) (λ i k. f i (omega arith)) in
-        let at : st .next .at ≡ c .at + n * 4 = ap (λ (x : Cursor). x .at) (v .next) in
+        let st = startsFrom s width rows row c n in
+        let v = starts-on c n o h (omega (arith, suc-mul n width)) (λ i k. f i (omega arith)) in
+        let at : st .next .at ≡ c .at + n * width = ap (λ (x : Cursor). x .at) (v .next) in
         let order : st .next .big ≡ big = ap (λ (x : Cursor). x .big) (v .next) ∙ o in
         let clean : Clean (st .next) = ap (λ (x : Cursor). x .refused) (v .next) in
-        let j = judged-on (st .next) (fitting st n) order clean (room-past c (st .next) n (v .next) l) (rw (v .last, at) (f n (omega arith))) in
+        let j = judged-on width (st .next) (fitting st n) order clean (room-past width c (st .next) n (v .next) l) (rw (v .last, at) (f n (omega arith))) in
         starts-from c n st v (start-from st n j)
 
   -- ---- offsets
@@ -235,9 +243,9 @@ module _ (s : List ℕ) (big : Bool) where
     abbrev within : ℕ → Bool
     within x = leb (x + bytes) limit
 
-    offset-judged : (st : Value) (i : ℕ) → st .next .big ≡ big → Clean (offsetInto s limit bytes hit st i .next) → Judged (st .next) within
-    unfolding offsetInto settled _>>=_
-    offset-judged st i o e = judged-read (st .next) within o e
+    offset-judged : (st : Value) (i : ℕ) → st .next .big ≡ big → Clean (offsetInto s limit bytes hit st i .next) → Judged 4 (st .next) within
+    unfolding offsetInto uintAt sizedAt settled _>>=_
+    offset-judged st i o e = judged-read 4 (st .next) within o e
 
     record OffsetStep (st : Value) (i : ℕ) (new : Value) : Type 0 where
       room : 4 ≤ leftIn (st .next)
@@ -245,8 +253,8 @@ module _ (s : List ℕ) (big : Bool) where
       fits : uintOf big 4 s (st .next .at) + bytes ≤ limit
       value : new .value ≡ cond (eqb i hit) (uintOf big 4 s (st .next .at)) (st .value)
 
-    offset-from : (st : Value) (i : ℕ) → Judged (st .next) within → OffsetStep st i (offsetInto s limit bytes hit st i)
-    unfolding offsetInto settled _>>=_
+    offset-from : (st : Value) (i : ℕ) → Judged 4 (st .next) within → OffsetStep st i (offsetInto s limit bytes hit st i)
+    unfolding offsetInto uintAt sizedAt settled _>>=_
     offset-from st i j =
         let v = uintAt s (st .next) in
         let n = judged (v .next) (st .next .at) (within (v .value)) 11 in
@@ -260,14 +268,14 @@ module _ (s : List ℕ) (big : Bool) where
     -- n offsets from a cursor on; that of value `hit` is kept
     pub record OffsetsRead (c : Cursor) (n : ℕ) (st : Value) : Type 0 where
       pub room : n * 4 ≤ leftIn c
-      pub next : st .next ≡ past c n
-      pub fits : (i : ℕ) → i < n → word c i + bytes ≤ limit
-      pub value : hit < n → st .value ≡ word c hit
+      pub next : st .next ≡ past 4 c n
+      pub fits : (i : ℕ) → i < n → numberOf 4 c i + bytes ≤ limit
+      pub value : hit < n → st .value ≡ numberOf 4 c hit
 
     offsets-none : (c : Cursor) → Clean c → OffsetsRead c 0 (record { value = 0; next = c })
     offsets-none c h = record {
       room = omega arith;
-      next = past-none c h;
+      next = past-none 4 c h;
       fits = λ i l. absurd (not-suc-le-zero l);
       value = λ l. absurd (not-suc-le-zero l);
     }
@@ -276,8 +284,8 @@ module _ (s : List ℕ) (big : Bool) where
     offsets-from c n st {new} v t =
         let at : st .next .at ≡ c .at + n * 4 = ap (λ (x : Cursor). x .at) (v .next) in
         record {
-          room = past-room c (st .next) n (v .next) (t .room);
-          next = t .next ∙ past-more c (st .next) n (v .next);
+          room = past-room 4 c (st .next) n (v .next) (v .room) (t .room);
+          next = t .next ∙ past-more 4 c (st .next) n (v .next);
           fits = λ i l. elim (ℕ-discrete i n) [
             | yes q ↦ rw q (rw at at (t .fits))
             | no q ↦ v .fits i (omega arith)
@@ -298,7 +306,7 @@ module _ (s : List ℕ) (big : Bool) where
         offsets-from c n st v (offset-from st n (offset-judged st n (ap (λ (x : Cursor). x .big) (v .next) ∙ o) e))
 
     pub offsets-on : (c : Cursor) (n : ℕ) → c .big ≡ big → Clean c → n * 4 ≤ leftIn c
-        → ((i : ℕ) → i < n → word c i + bytes ≤ limit) → OffsetsRead c n (offsetsFrom s limit bytes hit c n)
+        → ((i : ℕ) → i < n → numberOf 4 c i + bytes ≤ limit) → OffsetsRead c n (offsetsFrom s limit bytes hit c n)
     unfolding after
     offsets-on c zero o h l f = offsets-none c h
     offsets-on c (suc n) o h l f =
@@ -307,5 +315,5 @@ module _ (s : List ℕ) (big : Bool) where
         let at : st .next .at ≡ c .at + n * 4 = ap (λ (x : Cursor). x .at) (v .next) in
         let order : st .next .big ≡ big = ap (λ (x : Cursor). x .big) (v .next) ∙ o in
         let clean : Clean (st .next) = ap (λ (x : Cursor). x .refused) (v .next) in
-        let j = judged-on (st .next) within order clean (room-past c (st .next) n (v .next) l) (le-leb _ limit (rw at (f n (omega arith)))) in
+        let j = judged-on 4 (st .next) within order clean (room-past 4 c (st .next) n (v .next) l) (le-leb _ limit (rw at (f n (omega arith)))) in
         offsets-from c n st v (offset-from st n j)

@@ -13,7 +13,7 @@ use Rattle.bytes_at.specs.Steps.{after, _>>=_}
 use Rattle.bytes_at.specs.Stages.{noRefusal, blaming, _▷_, orAt}
 use Rattle.bytes_at.specs.declared.Refusal.{Refusal}
 use Rattle.aipsio_rules.specs.Field.{skipped, skippedEach, judged, settled, sizedAt, uintAt, rangedAt, agreed, markAt, textBefore, textAt, nameAt}
-use Rattle.aipsio_rules.specs.Object.{entered, opened, closed, blockAt}
+use Rattle.aipsio_rules.specs.Object.{entered, opened, closed, blockHeadAt, blockAt, rowsAt, rowBlockAt}
 use Rattle.table_rules.specs.declared.Column.{Column}
 use Rattle.table_rules.specs.ColumnDesc.{noColumn}
 use Rattle.table_rules.specs.declared.Binding.{Binding}
@@ -22,9 +22,9 @@ use Rattle.table_rules.specs.declared.Description.{Description}
 use Rattle.standard_rules.specs.Index.{links, freeOk}
 use Rattle.bytes_at.specs.Lists.{all, pairs, allApart, lastBelow}
 use Rattle.incremental_rules.specs.Header.{fieldsAt, headed, headerAt}
-use Rattle.incremental_rules.specs.Index.{indexed, indexIn, risesTo, firstsFit, indexFits}
-use Rattle.incremental_rules.proofs.IndexVectors.{header, object}
-use Rattle.incremental_rules.specs.Bucket.{startFits, started, startInto, startsAt, offsetInto, offsetsAt, dataAt, columnPartAt, columnPartInto, columnPartsAt, bucketAt, cellInto, cellsIn}
+use Rattle.incremental_rules.specs.Index.{indexed, indexAt, risesTo, firstsFit, indexFits}
+use Rattle.incremental_rules.proofs.IndexVectors.{header, object, wideObject}
+use Rattle.incremental_rules.specs.Bucket.{startFits, started, startInto, startsAt, offsetInto, offsetsAt, begun, bucketHeadAt, columnPartAt, columnPartInto, columnPartsAt, bucketAt, cellInto, cellsIn}
 use Rattle.incremental_rules.specs.Check.{foundAs, bucketInto, searchOf, refusalOf, checkedAs}
 use Rattle.incremental_rules.specs.Place.{partAt, bitOf, placeOf}
 
@@ -91,8 +91,29 @@ pub places :
     × (placeOf (table true) 0 file 2 6 ≡ record { first = 4168; count = 8 })
     × (checkedAs (table true) 0 file noRefusal 2 6 ≡ record { refused = noRefusal; size = 64; first = 4168 })
     × (checkedAs (table true) 0 file (blaming 8 0) 2 6 ≡ record { refused = blaming 8 0; size = 0; first = 0 })
-unfolding bigFrom uintOf sameBytes skipped skippedEach judged settled sizedAt uintAt rangedAt agreed markAt textBefore textAt nameAt entered opened closed blockAt fieldsAt headed headerAt indexed indexIn links freeOk numbersAt all pairs allApart dataAt startFits started startInto startsAt offsetInto offsetsAt columnPartAt columnPartInto columnPartsAt bucketAt lastBelow partAt bitOf placeOf risesTo firstsFit indexFits cellInto cellsIn foundAs bucketInto searchOf refusalOf checkedAs noColumn noBinding _▷_ orAt after _>>=_
+unfolding bigFrom uintOf sameBytes skipped skippedEach judged settled sizedAt uintAt rangedAt agreed markAt textBefore textAt nameAt entered opened closed blockHeadAt blockAt rowsAt rowBlockAt fieldsAt headed headerAt indexed indexAt links freeOk numbersAt all pairs allApart begun bucketHeadAt startFits started startInto startsAt offsetInto offsetsAt columnPartAt columnPartInto columnPartsAt bucketAt lastBelow partAt bitOf placeOf risesTo firstsFit indexFits cellInto cellsIn foundAs bucketInto searchOf refusalOf checkedAs noColumn noBinding _▷_ orAt after _>>=_
 places = (refl, refl, refl, refl, refl, refl, refl, refl)
+
+-- the same with an index of version 2, and with starts of 8 bytes in bucket 0, whose high byte is 255
+abbrev wideFile : List ℕ
+wideFile =
+    header ++ replicate 455 0
+    ++ (bigBytes 4 0xff00000a ++ replicate 6 0)
+    ++ (bigBytes 4 1 ++ bigBytes 8 0 ++ bigBytes 4 0)
+    ++ (bigBytes 4 2 ++ bigBytes 8 0 ++ bigBytes 8 3 ++ bigBytes 8 0x0000000400000005)
+    ++ replicate 10 0
+    ++ bucket1 ++ bucket2 ++ wideObject
+
+-- the places are the same; a negative start
+pub wide-places :
+    (refused wideFile ≡ noRefusal)
+    × (placeOf (table true) 0 wideFile 0 2 ≡ record { first = 4672; count = 32 })
+    × (placeOf (table true) 0 wideFile 0 6 ≡ record { first = 4128; count = 32 })
+    × (placeOf (table true) 0 wideFile 2 5 ≡ record { first = 4160; count = 8 })
+    × (placeOf (table true) 0 wideFile 2 6 ≡ record { first = 4168; count = 8 })
+    × (refused (set wideFile 550 128) ≡ blaming 11 0)
+unfolding bigFrom uintOf sameBytes skipped skippedEach judged settled sizedAt uintAt rangedAt agreed markAt textBefore textAt nameAt entered opened closed blockHeadAt blockAt rowsAt rowBlockAt fieldsAt headed headerAt indexed indexAt links freeOk numbersAt all pairs allApart begun bucketHeadAt startFits started startInto startsAt offsetInto offsetsAt columnPartAt columnPartInto columnPartsAt bucketAt lastBelow partAt bitOf placeOf risesTo firstsFit indexFits cellInto cellsIn foundAs bucketInto searchOf refusalOf checkedAs noColumn noBinding _▷_ orAt after _>>=_
+wide-places = (refl, refl, refl, refl, refl, refl)
 
 -- a file that ends in the last bucket; a little endian table; Blocks shorter than the count; a free list that does not end; a free
 -- bucket in the index; a bucket out of range; first rows that end past the row count
@@ -104,13 +125,13 @@ pub file-faults :
     × (refused (set file 789 2) ≡ blaming 11 0)
     × (refused (set file 789 3) ≡ blaming 11 0)
     × (refused (set file 764 8) ≡ blaming 11 0)
-unfolding bigFrom littleFrom uintOf sameBytes skipped skippedEach judged settled sizedAt uintAt rangedAt agreed markAt textBefore textAt nameAt entered opened closed blockAt fieldsAt headed headerAt indexed indexIn links freeOk numbersAt all pairs allApart dataAt startFits started startInto startsAt offsetInto offsetsAt columnPartAt columnPartInto columnPartsAt bucketAt risesTo firstsFit indexFits cellInto cellsIn foundAs bucketInto searchOf refusalOf noColumn noBinding _▷_ orAt after _>>=_
+unfolding bigFrom littleFrom uintOf sameBytes skipped skippedEach judged settled sizedAt uintAt rangedAt agreed markAt textBefore textAt nameAt entered opened closed blockHeadAt blockAt rowsAt rowBlockAt fieldsAt headed headerAt indexed indexAt links freeOk numbersAt all pairs allApart begun bucketHeadAt startFits started startInto startsAt offsetInto offsetsAt columnPartAt columnPartInto columnPartsAt bucketAt risesTo firstsFit indexFits cellInto cellsIn foundAs bucketInto searchOf refusalOf noColumn noBinding _▷_ orAt after _>>=_
 file-faults = (refl, refl, refl, refl, refl, refl, refl)
 
--- in bucket 0, an index offset whose high byte is 1, of 3, of 65, and of 64, where the bucket ends; no value of SCAN; a first start
+-- in bucket 0, a high byte of 1, whose wider starts leave FLAG no value; an index offset of 3, of 65, and of 64, where the bucket ends; no value of SCAN; a first start
 -- of 1; a start at the bucket's row count, and one that does not rise; SCAN's value at offset 2, which ends the data part, and at 3
 pub bucket-faults :
-    (refused (set file 512 1) ≡ blaming 3 512)
+    (refused (set file 512 1) ≡ blaming 11 0)
     × (refused (set file 515 3) ≡ blaming 11 0)
     × (refused (set file 515 65) ≡ blaming 11 0)
     × (refused (set file 515 64) ≡ blaming 1 576)
@@ -120,5 +141,5 @@ pub bucket-faults :
     × (refused (set file 545 0) ≡ blaming 11 0)
     × (refused (set file 533 2) ≡ noRefusal)
     × (refused (set file 533 3) ≡ blaming 11 0)
-unfolding bigFrom uintOf sameBytes skipped skippedEach judged settled sizedAt uintAt rangedAt agreed markAt textBefore textAt nameAt entered opened closed blockAt fieldsAt headed headerAt indexed indexIn links freeOk numbersAt all pairs allApart dataAt startFits started startInto startsAt offsetInto offsetsAt columnPartAt columnPartInto columnPartsAt bucketAt risesTo firstsFit indexFits cellInto cellsIn foundAs bucketInto searchOf refusalOf noColumn noBinding _▷_ orAt after _>>=_
+unfolding bigFrom uintOf sameBytes skipped skippedEach judged settled sizedAt uintAt rangedAt agreed markAt textBefore textAt nameAt entered opened closed blockHeadAt blockAt rowsAt rowBlockAt fieldsAt headed headerAt indexed indexAt links freeOk numbersAt all pairs allApart begun bucketHeadAt startFits started startInto startsAt offsetInto offsetsAt columnPartAt columnPartInto columnPartsAt bucketAt risesTo firstsFit indexFits cellInto cellsIn foundAs bucketInto searchOf refusalOf noColumn noBinding _▷_ orAt after _>>=_
 bucket-faults = (refl, refl, refl, refl, refl, refl, refl, refl, refl, refl)

@@ -11,44 +11,42 @@ use Rattle.bytes_at.specs.Bytes.{bytes}
 use Rattle.bytes_at.specs.Steps.{_>>=_}
 use Rattle.bytes_at.specs.Stages.{noRefusal}
 use Rattle.aipsio_rules.specs.Field.{refusalIn, uintAt, markAt}
-use Rattle.aipsio_rules.specs.Object.{opened, closed, blockAt}
+use Rattle.aipsio_rules.specs.Object.{opened, closed, blockAt, rowBlockAt}
 use Rattle.standard_rules.specs.Header.{bucketStart}
 use Rattle.incremental_rules.specs.declared.Header.{Header}
 use Rattle.standard_rules.specs.Index.{links}
-use Rattle.bytes_at.specs.Number.{numberIn, numbersAt}
+use Rattle.bytes_at.specs.Number.{bytesOf, intWidth, intBytes, numberIn, numbersAt}
 use Rattle.bytes_at.specs.Lists.{allApart}
 
 -- "A refusal carries its number and zeros", and beside them its byte.
-unfoldable pub indexed : Cursor → ℕ → ℕ → ℕ → Index
-indexed c count firsts buckets =
+unfoldable pub indexed : Cursor → ℕ → Bool → ℕ → ℕ → Index
+indexed c count wide firsts buckets =
     cond (eqb (c .refused) 0)
-    (record { count = count; firsts = firsts; buckets = buckets; refused = noRefusal })
-    (record { count = 0; firsts = 0; buckets = 0; refused = refusalIn c })
+    (record { count = count; wide = wide; firsts = firsts; buckets = buckets; refused = noRefusal })
+    (record { count = 0; wide = false; firsts = 0; buckets = 0; refused = refusalIn c })
 
--- "The ISMIndex (version 1, with mark): count n, Block of n + 1 first rows, Block of n bucket numbers (omitted by the note);
--- Block lengths that differ give 6", from a place on, in a table of this endianness, with first rows of so many bytes.
+-- "The ISMIndex (version 1 or 2, with mark): count n, Block of n + 1 first rows, Block of n bucket numbers (omitted by the note);
+-- Block lengths that differ give 6", from a place on, in a table of this endianness. First rows are Int64 in version 2.
 -- What stands after it is not read.
-unfoldable pub indexIn : List ℕ → Bool → ℕ → ℕ → Index
-indexIn s big each at = do
+unfoldable pub indexAt : List ℕ → Bool → ℕ → Index
+indexAt s big at = do
   m ← markAt s (record { at = at; end = length s; big = big; refused = 0 })
-  o ← opened s m (bytes "ISMIndex") 1 1
+  o ← opened s m (bytes "ISMIndex") 1 2
   n ← uintAt s (o .next)
-  firsts ← blockAt s (n .next) (n .value + 1) each
+  wide ← eqb (o .value) 2
+  width ← intWidth wide
+  firsts ← rowBlockAt s (n .next) (n .value + 1) (bytesOf width)
   buckets ← blockAt s (firsts .next) (n .value) 4
   e ← closed (buckets .next) m
-  indexed e (n .value) (firsts .value) (buckets .value)
-
--- first rows are uInts
-abbrev pub indexAt : List ℕ → Bool → ℕ → Index
-indexAt s big at = indexIn s big 4 at
+  indexed e (n .value) wide (firsts .value) (buckets .value)
 
 -- "The ISMIndex stands after the last bucket"
 abbrev pub indexOf : List ℕ → Bool → Header → Index
 indexOf f big h = indexAt f big (bucketStart (h .size) (h .count))
 
--- the first row of entry i of the index, and its bucket number, in the table's endianness
+-- the first row of entry i of the index, which has the index's own width, and its bucket number, in the table's endianness
 abbrev pub firstRow : Bool → List ℕ → Index → ℕ → ℕ
-firstRow big f x i = numberIn big 4 f (x .firsts) i
+firstRow big f x i = numberIn big (intBytes (x .wide)) f (x .firsts) i
 
 abbrev pub bucketNumber : Bool → List ℕ → Index → ℕ → ℕ
 bucketNumber big f x i = numberIn big 4 f (x .buckets) i
@@ -72,7 +70,7 @@ firstsFit rows (x ∷ xs) = let rest = risesTo rows x xs in eqb x 0 && rest
 unfoldable pub indexFits : ℕ → Bool → List ℕ → Header → Index → Bool
 indexFits rows big f h x =
     allApart (h .count) (numbersAt big 4 f (x .buckets) (x .count) ++ freeBuckets f h)
-    && firstsFit rows (numbersAt big 4 f (x .firsts) (x .count + 1))
+    && firstsFit rows (numbersAt big (intBytes (x .wide)) f (x .firsts) (x .count + 1))
 
 -- The sentence on the index's numbers as facts, one for each of its clauses.
 pub record IndexAccepted (rows : ℕ) (big : Bool) (f : List ℕ) (h : Header) (x : Index) : Type 0 where

@@ -19,16 +19,16 @@ use Rattle.standard_rules.specs.Place.{bucketBits, Bits, headerBits}
 use Rattle.incremental_rules.specs.Header.{headerAt}
 use Rattle.incremental_rules.specs.Index.{firstRow, bucketNumber, freeBuckets, indexOf}
 use Rattle.standard_rules.specs.Demand.{Apart, Inside}
-use Rattle.incremental_rules.specs.Bucket.{indexOffset, valuesIn, startIn, offsetOfValue, pastPart}
+use Rattle.incremental_rules.specs.Bucket.{indexOffset, startBytes, valuesIn, startIn, offsetOfValue, pastPart}
 use Rattle.incremental_rules.specs.Check.{refusalOf}
 
--- "The last start not above the local row"
-abbrev pub valueIn : Bool → List ℕ → ℕ → ℕ → ℕ
-valueIn big f part row = lastBelow (λ (i : ℕ). leb (startIn big f part i) row) (valuesIn big f part)
+-- "The last start not above the local row", in a part whose starts have so many bytes
+abbrev pub valueIn : Bool → List ℕ → ℕ → ℕ → ℕ → ℕ
+valueIn big f width part row = lastBelow (λ (i : ℕ). leb (startIn big f width part i) row) (valuesIn big f part)
 
 -- the offset of that value
-abbrev pub offsetIn : Bool → List ℕ → ℕ → ℕ → ℕ
-offsetIn big f part row = offsetOfValue big f part (valueIn big f part row)
+abbrev pub offsetIn : Bool → List ℕ → ℕ → ℕ → ℕ → ℕ
+offsetIn big f width part row = offsetOfValue big f width part (valueIn big f width part row)
 
 -- the entry of a row: the last whose first row is not above it
 abbrev pub entryOf : Bool → List ℕ → Index → ℕ → ℕ
@@ -40,17 +40,18 @@ isBound d sequence k = eqb (getD (d .bindings) k noBinding .sequence) sequence
 
 -- where the part of the column at a position begins in an index part that begins at a place: those of the bound columns before it
 -- come first
-unfoldable pub partAt : Bool → List ℕ → ℕ → (ℕ → Bool) → ℕ → ℕ
-partAt big f at bound zero = at
-partAt big f at bound (suc k) = let before = partAt big f at bound k in cond (bound k) (pastPart big f before) before
+unfoldable pub partAt : Bool → List ℕ → ℕ → ℕ → (ℕ → Bool) → ℕ → ℕ
+partAt big f width at bound zero = at
+partAt big f width at bound (suc k) = let before = partAt big f width at bound k in cond (bound k) (pastPart big f width before) before
 
 -- the first bit of the value that a row has in the column at a position, in a file with this header and this index
 unfoldable pub bitOf : Description → ℕ → List ℕ → Header → Index → ℕ → ℕ → ℕ
 bitOf d sequence f h x position row =
     let e = entryOf (d .big) f x row in
     let start = bucketStart (h .size) (bucketNumber (d .big) f x e) in
-    let part = partAt (d .big) f (start + indexOffset (d .big) f start) (isBound d sequence) position in
-    8 * (start + 4 + offsetIn (d .big) f part (row - firstRow (d .big) f x e))
+    let width = startBytes (d .big) f start in
+    let part = partAt (d .big) f width (start + indexOffset (d .big) f start) (isBound d sequence) position in
+    8 * (start + 4 + offsetIn (d .big) f width part (row - firstRow (d .big) f x e))
 
 -- "Cells take ceiling(bits / 8) x 8 bits"
 abbrev pub wholeBits : Description → ℕ → ℕ

@@ -22,10 +22,11 @@ pub struct Header {
     pub refused: Refusal,
 }
 
-// The index of a file: the number of its entries, and where in the file its first rows, one more than entries, and its bucket
-// numbers start; zeros and the refusal where it is refused.
+// The index of a file: the number of its entries, whether its first rows are Int64, and where in the file its first rows, one more
+// than entries, and its bucket numbers start; zeros and the refusal where it is refused.
 pub struct Index {
     pub count: usize,
+    pub wide: bool,
     pub firsts: usize,
     pub buckets: usize,
     pub refused: Refusal,
@@ -37,6 +38,14 @@ pub struct Cells {
     pub bytes: [usize; 64],
     pub count: usize,
     pub column: usize,
+}
+
+// The beginning of a bucket: whether its starts are Int64, how long its data part is, and the cursor at its index part; zeros where
+// the cursor is refused.
+pub struct BucketHead {
+    pub wide: bool,
+    pub len: usize,
+    pub next: Cursor,
 }
 
 // The starts of a column's values: the last one, and which is the last that is not above the row; zeros where the cursor is

@@ -6,7 +6,7 @@ use mathlib.Core.List.{List}
 use lib.ListN.{length, replicate}
 use Rattle.lookup_rules.specs.declared.Staged.{Staged}
 use Rattle.standard_index.specs.Bounds.{SetInside}
-use Rattle.standard.specs.Bit.{locatedBy, noCell}
+use Rattle.standard.specs.Bit.{localBy, locatedBy, noCell}
 use Rattle.standard.specs.declared.Located.{Located}
 use Rattle.lookup_rules.specs.declared.Request.{Request}
 use Rattle.lookup_rules.specs.Questions.{answered}
@@ -21,12 +21,12 @@ roomSettled keep room = cond keep room (replicate (length room) 0)
 
 -- The index text in the room has the column's set, and no sum of a place wraps.
 pub record Findable (text : List ℕ) (s : Staged) (row : ℕ) : Type 0 where
-  pub inside : SetInside (length text) 4 (s .set)
+  pub inside : SetInside (length text) (s .set)
   pub some : 0 < s .set .entries
   pub size-most : s .plan .size ≤ 1048576
   pub offset-most : s .plan .offset < 4294967296
   pub bits-most : s .plan .bits ≤ 4294967296
-  pub row-most : row ≤ 2147483647
+  pub local-below : localBy (s .big) text (s .set) row < s .set .per
 
 -- the cell, zeros where none is asked for or the question is refused
 unfoldable pub cellFound : List ℕ → Staged → Request → Located

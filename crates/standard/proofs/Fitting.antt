@@ -25,13 +25,13 @@ regroup true false true false e g = refl
 regroup true false false d e g = refl
 regroup false b c d e g = refl
 
-module _ (rows : ℕ) (cs : List MapColumn) (f : List ℕ) (h : Header) (big : Bool) (text : List ℕ) {sets : List Set} {entries pers columns lasts buckets : List ℕ} {i : ℕ}
-    (v : Gathering sets (h .sets) entries pers columns lasts buckets i) (past : h .sets ≤ i) (few : h .sets ≤ 16) where
+module _ (rows : ℕ) (cs : List MapColumn) (f : List ℕ) (h : Header) (big : Bool) (text : List ℕ) {sets : List Set} {entries pers columns : List ℕ} {wides : List Bool} {lasts buckets : List ℕ} {i : ℕ}
+    (v : Gathering sets (h .sets) entries pers columns wides lasts buckets i) (past : h .sets ≤ i) (few : h .sets ≤ 16) where
   abbrev whole : Map
   whole = mapFrom rows cs f h (setsFrom big text sets (h .sets) 0)
 
   abbrev setsPart : Bool
-  setsPart = rowsFit rows big text entries pers lasts (h .sets) 0
+  setsPart = rowsFit rows big text entries pers wides lasts (h .sets) 0
 
   abbrev columnsPart : Bool
   columnsPart = columnsTest cs pers columns (h .sets) (h .size)

@@ -10,7 +10,7 @@ use lib.ListN.{length, getD, set, replicate, getD-replicate, length-replicate, L
 use borrow.Author.Tests.{eq-eqb}
 use Rattle.bytes_at.specs.Lists.{all, allFrom}
 use Rattle.standard_rules.specs.Map.{Map, MapColumn, MapSet, setAt, noMapSet, setFits, covers, countFits, dataOf, extentOf, mapSet, setsFrom}
-use Rattle.bytes_at.specs.Number.{numbersAt}
+use Rattle.bytes_at.specs.Number.{intBytes, numbersAt}
 use Rattle.bytes_at.proofs.Listed.{numbers-length}
 use Rattle.standard_rules.specs.declared.Set.{Set}
 use Rattle.standard_rules.specs.Index.{noSet}
@@ -38,67 +38,69 @@ module _ (big : Bool) (text : List ℕ) (sets : List Set) where
 
   -- both Blocks have as many elements as there are entries
   set-fits : (rows k : ℕ) → setFits rows (mapSet big text (getD sets k noSet))
-      ≡ covers rows (getD sets k noSet .per) 0 (numbersAt big 4 text (getD sets k noSet .lasts) (getD sets k noSet .entries))
+      ≡ covers rows (getD sets k noSet .per) 0 (numbersAt big (intBytes (getD sets k noSet .wide)) text (getD sets k noSet .lasts) (getD sets k noSet .entries))
   set-fits rows k =
       let s = getD sets k noSet in
-      let e : eqb (length (numbersAt big 4 text (s .buckets) (s .entries))) (length (numbersAt big 4 text (s .lasts) (s .entries))) ≡ true
-      = eq-eqb _ _ (numbers-length big 4 text (s .buckets) (s .entries) ∙ sym (numbers-length big 4 text (s .lasts) (s .entries))) in
+      let e : eqb (length (numbersAt big 4 text (s .buckets) (s .entries))) (length (numbersAt big (intBytes (s .wide)) text (s .lasts) (s .entries))) ≡ true
+      = eq-eqb _ _ (numbers-length big 4 text (s .buckets) (s .entries) ∙ sym (numbers-length big (intBytes (s .wide)) text (s .lasts) (s .entries))) in
       rw e (and-true _)
     where
       and-true : (b : Bool) → b && true ≡ b
       and-true true = refl
       and-true false = refl
 
--- ---- a list that has one number of each of the sets below m
-abbrev Held : (Set → ℕ) → List Set → List ℕ → ℕ → Type 0
-Held p sets l m = (k : ℕ) → k < m → getD l k 0 ≡ p (getD sets k noSet)
+-- ---- a list that has one field of each of the sets below m
+abbrev Held : {A : Type 0} → A → (Set → A) → List Set → List A → ℕ → Type 0
+Held none p sets l m = (k : ℕ) → k < m → getD l k none ≡ p (getD sets k noSet)
 
-module _ (big : Bool) (text : List ℕ) (sets : List Set) (entries : List ℕ) (m : ℕ) (held : Held (λ s. s .entries) sets entries m) where
-  rows-from : (rows : ℕ) (pers lasts : List ℕ) → Held (λ s. s .per) sets pers m → Held (λ s. s .lasts) sets lasts m
-      → (n k : ℕ) → k + n ≤ m → rowsFit rows big text entries pers lasts n k ≡ all (setFits rows) (setsFrom big text sets n k)
+module _ (big : Bool) (text : List ℕ) (sets : List Set) (entries : List ℕ) (m : ℕ) (held : Held 0 (λ s. s .entries) sets entries m) where
+  rows-from : (rows : ℕ) (pers : List ℕ) (wides : List Bool) (lasts : List ℕ) → Held 0 (λ s. s .per) sets pers m → Held false (λ s. s .wide) sets wides m → Held 0 (λ s. s .lasts) sets lasts m
+      → (n k : ℕ) → k + n ≤ m → rowsFit rows big text entries pers wides lasts n k ≡ all (setFits rows) (setsFrom big text sets n k)
   unfolding rowsFit setsFrom all
-  rows-from rows pers lasts p q zero k h = refl
-  rows-from rows pers lasts p q (suc n) k h =
-      rw (rows-from rows pers lasts p q n (suc k) (omega arith), set-fits big text sets rows k, p k (omega arith), q k (omega arith), held k (omega arith))
+  rows-from rows pers wides lasts p w q zero k h = refl
+  rows-from rows pers wides lasts p w q (suc n) k h =
+      rw (rows-from rows pers wides lasts p w q n (suc k) (omega arith), set-fits big text sets rows k, p k (omega arith), w k (omega arith), q k (omega arith), held k (omega arith))
 
-  data-from : (buckets : List ℕ) → Held (λ s. s .buckets) sets buckets m
+  data-from : (buckets : List ℕ) → Held 0 (λ s. s .buckets) sets buckets m
       → (n k : ℕ) → k + n ≤ m → dataBy big text entries buckets n k ≡ dataOf (setsFrom big text sets n k)
   unfolding dataBy setsFrom dataOf
   data-from buckets p zero k h = refl
   data-from buckets p (suc n) k h = rw (data-from buckets p n (suc k) (omega arith), p k (omega arith), held k (omega arith))
 
-counts-from : (big : Bool) (text : List ℕ) (sets : List Set) (l : List MapColumn) (columns : List ℕ) (m : ℕ) → Held (λ s. s .columns) sets columns m
+counts-from : (big : Bool) (text : List ℕ) (sets : List Set) (l : List MapColumn) (columns : List ℕ) (m : ℕ) → Held 0 (λ s. s .columns) sets columns m
     → (n k : ℕ) → k + n ≤ m → countsFit l columns n k ≡ allFrom (countFits l) k (setsFrom big text sets n k)
 unfolding countsFit setsFrom allFrom
 counts-from big text sets l columns m p zero k h = refl
 counts-from big text sets l columns m p (suc n) k h = rw (counts-from big text sets l columns m p n (suc k) (omega arith), p k (omega arith))
 
 -- ---- the loop: the numbers of the first i of m sets are taken
-abbrev taken : (Set → ℕ) → List Set → ℕ → List ℕ
-taken p sets i = filled (λ k. p (getD sets k noSet)) (replicate 16 0) i
+abbrev taken : {A : Type 0} → A → (Set → A) → List Set → ℕ → List A
+taken none p sets i = filled (λ k. p (getD sets k noSet)) (replicate 16 none) i
 
-pub record Gathering (sets : List Set) (m : ℕ) (entries pers columns lasts buckets : List ℕ) (i : ℕ) : Type 0 where
+pub record Gathering (sets : List Set) (m : ℕ) (entries pers columns : List ℕ) (wides : List Bool) (lasts buckets : List ℕ) (i : ℕ) : Type 0 where
   pub places : length sets ≡ 16
   pub within : i ≤ m
-  pub entries-are : entries ≡ taken (λ s. s .entries) sets i
-  pub pers-are : pers ≡ taken (λ s. s .per) sets i
-  pub columns-are : columns ≡ taken (λ s. s .columns) sets i
-  pub lasts-are : lasts ≡ taken (λ s. s .lasts) sets i
-  pub buckets-are : buckets ≡ taken (λ s. s .buckets) sets i
+  pub entries-are : entries ≡ taken 0 (λ s. s .entries) sets i
+  pub pers-are : pers ≡ taken 0 (λ s. s .per) sets i
+  pub columns-are : columns ≡ taken 0 (λ s. s .columns) sets i
+  pub wides-are : wides ≡ taken false (λ s. s .wide) sets i
+  pub lasts-are : lasts ≡ taken 0 (λ s. s .lasts) sets i
+  pub buckets-are : buckets ≡ taken 0 (λ s. s .buckets) sets i
 
-pub gathering-start : (sets : List Set) (m : ℕ) → length sets ≡ 16 → Gathering sets m (replicate 16 0) (replicate 16 0) (replicate 16 0) (replicate 16 0) (replicate 16 0) 0
+pub gathering-start : (sets : List Set) (m : ℕ) → length sets ≡ 16 → Gathering sets m (replicate 16 0) (replicate 16 0) (replicate 16 0) (replicate 16 false) (replicate 16 0) (replicate 16 0) 0
 gathering-start sets m h = record {
   places = h;
   within = zero-le;
   entries-are = filled-none _ _;
   pers-are = filled-none _ _;
   columns-are = filled-none _ _;
+  wides-are = filled-none _ _;
   lasts-are = filled-none _ _;
   buckets-are = filled-none _ _;
 }
 
-taken-at : (p : Set → ℕ) (sets : List Set) (m : ℕ) {l : List ℕ} → m ≤ 16 → l ≡ taken p sets m → Held p sets l m
-taken-at p sets m h e k g = rw e (filled-at (λ k. p (getD sets k noSet)) (replicate 16 0) 0 m k h g)
+taken-at : {A : Type 0} (none : A) (p : Set → A) (sets : List Set) (m : ℕ) {l : List A} → m ≤ 16 → l ≡ taken none p sets m → Held none p sets l m
+taken-at none p sets m h e k g = rw e (filled-at (λ k. p (getD sets k noSet)) (replicate 16 none) none m k h g)
 
 zeros-at : (k : ℕ) → _≡_ {A = ℕ} (getD (replicate 16 0) k 0) 0
 zeros-at k = elim (decLt k 16) [
@@ -106,18 +108,19 @@ zeros-at k = elim (decLt k 16) [
   | no l ↦ List·getD-eq-default (replicate 16 0) 0 {n = k} (omega (arith, length-replicate {A = ℕ} 16 0))
 ]
 
-taken-past : (p : Set → ℕ) (sets : List Set) (m : ℕ) {l : List ℕ} → l ≡ taken p sets m → (k : ℕ) → m ≤ k → getD l k 0 ≡ 0
+taken-past : (p : Set → ℕ) (sets : List Set) (m : ℕ) {l : List ℕ} → l ≡ taken 0 p sets m → (k : ℕ) → m ≤ k → getD l k 0 ≡ 0
 taken-past p sets m e k g = rw e (filled-past (λ k. p (getD sets k noSet)) (replicate 16 0) 0 m k g ∙ zeros-at k)
 
-module _ {sets : List Set} {m : ℕ} {entries pers columns lasts buckets : List ℕ} {i : ℕ} (v : Gathering sets m entries pers columns lasts buckets i) where
+module _ {sets : List Set} {m : ℕ} {entries pers columns : List ℕ} {wides : List Bool} {lasts buckets : List ℕ} {i : ℕ} (v : Gathering sets m entries pers columns wides lasts buckets i) where
   pub gathering-again : i < m
-      → Gathering sets m (set entries i (getD sets i noSet .entries)) (set pers i (getD sets i noSet .per)) (set columns i (getD sets i noSet .columns)) (set lasts i (getD sets i noSet .lasts)) (set buckets i (getD sets i noSet .buckets)) (i + 1)
+      → Gathering sets m (set entries i (getD sets i noSet .entries)) (set pers i (getD sets i noSet .per)) (set columns i (getD sets i noSet .columns)) (set wides i (getD sets i noSet .wide)) (set lasts i (getD sets i noSet .lasts)) (set buckets i (getD sets i noSet .buckets)) (i + 1)
   gathering-again h = record {
     places = v .places;
     within = omega arith;
     entries-are = filled-more _ _ i (v .entries-are) refl;
     pers-are = filled-more _ _ i (v .pers-are) refl;
     columns-are = filled-more _ _ i (v .columns-are) refl;
+    wides-are = filled-more _ _ i (v .wides-are) refl;
     lasts-are = filled-more _ _ i (v .lasts-are) refl;
     buckets-are = filled-more _ _ i (v .buckets-are) refl;
   }
@@ -126,28 +129,31 @@ module _ {sets : List Set} {m : ℕ} {entries pers columns lasts buckets : List 
     all-in : i ≡ m
     all-in = omega (arith, v .within)
 
-    entries-held : Held (λ s. s .entries) sets entries m
-    entries-held = taken-at (λ s. s .entries) sets m few (v .entries-are ∙ ap (taken (λ s. s .entries) sets) all-in)
+    entries-held : Held 0 (λ s. s .entries) sets entries m
+    entries-held = taken-at 0 (λ s. s .entries) sets m few (v .entries-are ∙ ap (taken 0 (λ s. s .entries) sets) all-in)
 
-    pers-taken : pers ≡ taken (λ s. s .per) sets m
-    pers-taken = v .pers-are ∙ ap (taken (λ s. s .per) sets) all-in
+    pers-taken : pers ≡ taken 0 (λ s. s .per) sets m
+    pers-taken = v .pers-are ∙ ap (taken 0 (λ s. s .per) sets) all-in
 
-    pers-held : Held (λ s. s .per) sets pers m
-    pers-held = taken-at (λ s. s .per) sets m few pers-taken
+    pers-held : Held 0 (λ s. s .per) sets pers m
+    pers-held = taken-at 0 (λ s. s .per) sets m few pers-taken
 
-    columns-held : Held (λ s. s .columns) sets columns m
-    columns-held = taken-at (λ s. s .columns) sets m few (v .columns-are ∙ ap (taken (λ s. s .columns) sets) all-in)
+    columns-held : Held 0 (λ s. s .columns) sets columns m
+    columns-held = taken-at 0 (λ s. s .columns) sets m few (v .columns-are ∙ ap (taken 0 (λ s. s .columns) sets) all-in)
 
-    lasts-held : Held (λ s. s .lasts) sets lasts m
-    lasts-held = taken-at (λ s. s .lasts) sets m few (v .lasts-are ∙ ap (taken (λ s. s .lasts) sets) all-in)
+    wides-held : Held false (λ s. s .wide) sets wides m
+    wides-held = taken-at false (λ s. s .wide) sets m few (v .wides-are ∙ ap (taken false (λ s. s .wide) sets) all-in)
 
-    buckets-held : Held (λ s. s .buckets) sets buckets m
-    buckets-held = taken-at (λ s. s .buckets) sets m few (v .buckets-are ∙ ap (taken (λ s. s .buckets) sets) all-in)
+    lasts-held : Held 0 (λ s. s .lasts) sets lasts m
+    lasts-held = taken-at 0 (λ s. s .lasts) sets m few (v .lasts-are ∙ ap (taken 0 (λ s. s .lasts) sets) all-in)
+
+    buckets-held : Held 0 (λ s. s .buckets) sets buckets m
+    buckets-held = taken-at 0 (λ s. s .buckets) sets m few (v .buckets-are ∙ ap (taken 0 (λ s. s .buckets) sets) all-in)
 
     -- the lists of each set lie in a text of n bytes
-    module _ (n : ℕ) (inside : (k : ℕ) → k < m → SetInside n 4 (getD sets k noSet)) where
-      pub lasts-inside : (k : ℕ) → k < m → getD lasts k 0 + getD entries k 0 * 4 ≤ n
-      lasts-inside k g = rw (lasts-held k g, entries-held k g) (inside k g .lasts-inside)
+    module _ (n : ℕ) (inside : (k : ℕ) → k < m → SetInside n (getD sets k noSet)) where
+      pub lasts-inside : (k : ℕ) → k < m → getD lasts k 0 + getD entries k 0 * intBytes (getD wides k false) ≤ n
+      lasts-inside k g = rw (lasts-held k g, wides-held k g, entries-held k g) (inside k g .lasts-inside)
 
       pub buckets-inside : (k : ℕ) → k < m → getD buckets k 0 + getD entries k 0 * 4 ≤ n
       buckets-inside k g = rw (buckets-held k g, entries-held k g) (inside k g .buckets-inside)
@@ -170,8 +176,8 @@ module _ {sets : List Set} {m : ℕ} {entries pers columns lasts buckets : List 
       pub extents-in : (M : Map) → M .sets ≡ setsFrom big text sets m 0 → (l : List MapColumn) → extentsBy pers l ≡ map (extentOf M) l
       extents-in M e l = extents-same (λ k. getD pers k 0) (λ k. setAt M k .rowsPer) (λ k. per-at k ∙ sym (ap (λ s. getD s k noMapSet .rowsPer) e)) l
 
-      pub rows-in : (rows : ℕ) → rowsFit rows big text entries pers lasts m 0 ≡ all (setFits rows) (setsFrom big text sets m 0)
-      rows-in rows = rows-from big text sets entries m entries-held rows pers lasts pers-held lasts-held m 0 (omega arith)
+      pub rows-in : (rows : ℕ) → rowsFit rows big text entries pers wides lasts m 0 ≡ all (setFits rows) (setsFrom big text sets m 0)
+      rows-in rows = rows-from big text sets entries m entries-held rows pers wides lasts pers-held wides-held lasts-held m 0 (omega arith)
 
       pub data-in : dataBy big text entries buckets m 0 ≡ dataOf (setsFrom big text sets m 0)
       data-in = data-from big text sets entries m entries-held buckets buckets-held m 0 (omega arith)

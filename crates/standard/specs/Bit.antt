@@ -2,7 +2,7 @@
 use Prim.Native.Nat.{ℕ, _+_, _-_, _*_}
 use mathlib.Core.Bool.{Bool}
 use mathlib.Core.List.{List}
-use Rattle.bytes_at.specs.Number.{numbersAt, numberIn}
+use Rattle.bytes_at.specs.Number.{intBytes, numbersAt, numberIn}
 use Rattle.standard_rules.specs.Looks.{halvingOf}
 use Rattle.standard_rules.specs.declared.Entry.{Entry}
 use Rattle.standard_rules.specs.declared.Set.{Set}
@@ -11,13 +11,16 @@ use Rattle.standard.specs.declared.Located.{Located}
 
 -- the entry of a row, and the looks
 abbrev pub byHalving : Bool → List ℕ → Set → ℕ → Entry
-byHalving big text s row = halvingOf (numbersAt big 4 text (s .lasts) (s .entries)) row
+byHalving big text s row = halvingOf (numbersAt big (intBytes (s .wide)) text (s .lasts) (s .entries)) row
+
+-- the row's number within that entry
+abbrev pub localBy : Bool → List ℕ → Set → ℕ → ℕ
+localBy big text s row = row - firstRowIn big (intBytes (s .wide)) text (s .lasts) (byHalving big text s row .at)
 
 -- "First bit: 8 x (bucket start + offset) + r x cell bits"
 unfoldable pub bitByHalving : Bool → List ℕ → Set → ℕ → ℕ → ℕ → ℕ → ℕ
 bitByHalving big text s size offset bits row =
-    let e = byHalving big text s row .at in
-    8 * (512 + numberIn big 4 text (s .buckets) e * size + offset) + (row - firstRowIn big 4 text (s .lasts) e) * bits
+    8 * (512 + numberIn big 4 text (s .buckets) (byHalving big text s row .at) * size + offset) + localBy big text s row * bits
 
 -- the cell, with the looks and the entries
 abbrev pub locatedBy : Bool → List ℕ → Set → ℕ → ℕ → ℕ → ℕ → Located

@@ -57,7 +57,7 @@ fn check_map(
     n: usize,
 ) -> Checked
     requires { ⌜ Area (now f) (h .size) (h .count) ⌝ }
-    requires { ⌜ (n ≤ 64) × (h .sets ≤ 16) × ((k : ℕ) → k < h .sets → SetInside (length (now text)) 4 (getD sets k noSet)) ⌝ }
+    requires { ⌜ (n ≤ 64) × (h .sets ≤ 16) × ((k : ℕ) → k < h .sets → SetInside (length (now text)) (getD sets k noSet)) ⌝ }
     requires { ⌜ ((i : ℕ) → i < n → getD (now offsets) i 0 < 4294967296) × ((i : ℕ) → i < n → getD (now bits) i 0 < 4294967296) ⌝ }
     ensures { λ r. ⌜ r ≡ mapped (fits (mapFrom rows (columnsBy (now (kept .entry)) (now (owners .entry)) (now (offsets .entry)) (now (bits .entry)) n 0) (now (f .entry)) h (setsFrom big (now (text .entry)) sets (h .sets) 0))) (h .size) (getD sets k noSet) ⌝ }
 {
@@ -67,6 +67,7 @@ fn check_map(
     let mut entries = [0usize; 16];
     let mut pers = [0usize; 16];
     let mut columns = [0usize; 16];
+    let mut wides = [false; 16];
     let mut lasts = [0usize; 16];
     let mut buckets = [0usize; 16];
     let mut i = 0;
@@ -75,11 +76,12 @@ fn check_map(
         entries[i] = s.entries;
         pers[i] = s.per;
         columns[i] = s.columns;
+        wides[i] = s.wide;
         lasts[i] = s.lasts;
         buckets[i] = s.buckets;
         i += 1;
     }
-    if !crate::sets::sets_fit(text, big, &entries, &pers, &lasts, m, rows) {
+    if !crate::sets::sets_fit(text, big, &entries, &pers, &wides, &lasts, m, rows) {
         return refuse(Refusal {
             number: 11,
             byte: 0,

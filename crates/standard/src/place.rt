@@ -3,7 +3,7 @@ ghost use lib.ListN.{length};
 ghost use Prim.Native.Nat.{_≤_, _<_};
 ghost use mathlib.Core.Path.{_≡_};
 ghost use Rattle.standard_index.specs.Bounds.{SetInside};
-ghost use Rattle.standard.specs.Bit.{locatedBy, noCell};
+ghost use Rattle.standard.specs.Bit.{localBy, locatedBy, noCell};
 use crate::Located;
 use bytes_at::Width;
 use standard_rules::Set;
@@ -20,7 +20,8 @@ pub fn no_cell() -> Located
 }
 
 // A row's cell in the column at the offset, whose cells have so many bits. The set's lists stand in the text, in the table's
-// endianness. A set without entries has no cells, and gives zeros.
+// endianness. A set without entries has no cells, and gives zeros. No sum wraps, however large the row is, since its number within
+// its entry is below the rows per bucket.
 pub fn locate(
     text: &[u8],
     big: bool,
@@ -30,8 +31,9 @@ pub fn locate(
     bits: usize,
     row: usize,
 ) -> Located
-    requires { ⌜ SetInside (length (now text)) 4 s ⌝ }
-    requires { ⌜ (size ≤ 1048576) × (offset < 4294967296) × (bits ≤ 4294967296) × (row ≤ 2147483647) ⌝ }
+    requires { ⌜ SetInside (length (now text)) s ⌝ }
+    requires { ⌜ (size ≤ 1048576) × (offset < 4294967296) × (bits ≤ 4294967296) ⌝ }
+    requires { ⌜ (0 < s .entries → localBy big (now text) s row < s .per) ⌝ }
     ensures { λ r. ⌜ (0 < s .entries → r ≡ locatedBy big (now (text .entry)) s size offset bits row) × (s .entries ≡ 0 → r ≡ noCell) ⌝ }
 {
     let n = s.entries;
@@ -40,10 +42,11 @@ pub fn locate(
     if n == 0 {
         return no_cell();
     }
-    let e = standard_index::rows::find_entry(text, lasts, n, row, big, Width::Four);
+    let width = Width::of_int(s.wide);
+    let e = standard_index::rows::find_entry(text, lasts, n, row, big, width);
     let at = e.at;
     let b = bytes_at::word(text, buckets + at * 4, big);
-    let r = standard_index::rows::local_row(text, lasts, at, row, big, Width::Four);
+    let r = standard_index::rows::local_row(text, lasts, at, row, big, width);
     let first = 8 * (512 + b * size + offset) + r * bits;
     let looks = e.looks;
     Located {

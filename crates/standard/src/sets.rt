@@ -3,7 +3,8 @@
 ghost use Prim.Native.Nat.{ℕ, _+_, _*_, _≤_, _<_};
 ghost use lib.ListN.{length, getD};
 ghost use mathlib.Core.Path.{_≡_};
-ghost use mathlib.Core.Bool.{true};
+ghost use mathlib.Core.Bool.{true, false};
+ghost use Rattle.bytes_at.specs.Number.{intBytes};
 ghost use mathlib.Core.List.{_++_};
 ghost use Rattle.bytes_at.specs.Lists.{allApart};
 ghost use Rattle.standard.specs.Sets.{rowsFit, dataBy};
@@ -18,25 +19,19 @@ pub fn sets_fit(
     big: bool,
     entries: &[usize; 16],
     pers: &[usize; 16],
+    wides: &[bool; 16],
     lasts: &[usize; 16],
     m: usize,
     rows: usize,
 ) -> bool
-    requires { ⌜ (m ≤ 16) × ((k : ℕ) → k < m → getD (now lasts) k 0 + getD (now entries) k 0 * 4 ≤ length (now text)) ⌝ }
-    ensures { λ r. ⌜ r ≡ rowsFit rows big (now (text .entry)) (now (entries .entry)) (now (pers .entry)) (now (lasts .entry)) m 0 ⌝ }
+    requires { ⌜ (m ≤ 16) × ((k : ℕ) → k < m → getD (now lasts) k 0 + getD (now entries) k 0 * intBytes (getD (now wides) k false) ≤ length (now text)) ⌝ }
+    ensures { λ r. ⌜ r ≡ rowsFit rows big (now (text .entry)) (now (entries .entry)) (now (pers .entry)) (now (wides .entry)) (now (lasts .entry)) m 0 ⌝ }
 {
     let mut left = m;
     let mut k = 0;
     while 0 < left {
-        if !standard_index::rows::rows_fit(
-            text,
-            lasts[k],
-            entries[k],
-            pers[k],
-            rows,
-            big,
-            Width::Four,
-        ) {
+        let width = Width::of_int(wides[k]);
+        if !standard_index::rows::rows_fit(text, lasts[k], entries[k], pers[k], rows, big, width) {
             return false;
         }
         k += 1;

@@ -1,5 +1,6 @@
 -- What the code knows of a header and of a set that were read.
 use Prim.Native.Nat.{_≤_, _<_, ℕ, _+_, _*_}
+use Rattle.bytes_at.specs.Number.{intBytes}
 use Rattle.standard_rules.specs.declared.Header.{Header}
 use Rattle.standard_rules.specs.declared.Set.{Set}
 
@@ -11,9 +12,9 @@ pub record HeaderWords (h : Header) : Type 0 where
   pub first-index : h .«first_index» < 4294967296
   pub offset : h .offset < 4294967296
 
--- both lists of a set lie in a text of len bytes, last rows taking `each` bytes, and its rows per bucket are in range
-pub record SetInside (len each : ℕ) (x : Set) : Type 0 where
-  pub lasts-inside : x .lasts + x .entries * each ≤ len
+-- both lists of a set lie in a text of len bytes, and its rows per bucket are in range
+pub record SetInside (len : ℕ) (x : Set) : Type 0 where
+  pub lasts-inside : x .lasts + x .entries * intBytes (x .wide) ≤ len
   pub buckets-inside : x .buckets + x .entries * 4 ≤ len
   pub per-least : 1 ≤ x .per
   pub per-most : x .per ≤ 8388608

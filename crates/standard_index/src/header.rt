@@ -16,7 +16,7 @@ fn read_bucket_fields(s: &[u8], c: Cursor) -> BucketFields
     ensures words { λ r. ⌜ (r .«free_count» < 4294967296) × (r .«first_free» < 4294967296) ⌝ }
 {
     // StandardStMan
-    let o = aipsio::objects::open(s, c, 13, 0x5374616e64617264, 0x61726453744d616e, 3, 3);
+    let o = aipsio::objects::open(s, c, 13, 0x5374616e64617264, 0x61726453744d616e, 3, 4);
     let flag = aipsio::numbers::flag(s, o.next);
     let same = buckets::file::same_endian(flag.value, c.big);
     let d = aipsio::judge(flag.next, o.next.at, same, 6);

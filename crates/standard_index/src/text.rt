@@ -13,18 +13,19 @@ use standard_rules::SetRead;
 use standard_rules::Sets;
 
 // An SSMIndex with its mark.
-fn read_set(s: &[u8], c: Cursor, width: Width) -> SetRead
-    ensures { λ r. ⌜ r ≡ ssmIndexAt (now (s .entry)) c width ⌝ }
+fn read_set(s: &[u8], c: Cursor) -> SetRead
+    ensures { λ r. ⌜ r ≡ ssmIndexAt (now (s .entry)) c ⌝ }
 {
     let m = aipsio::numbers::mark(s, c);
     // SSMIndex
-    let o = aipsio::objects::open(s, m, 8, 0x53534d496e646578, 0x53534d496e646578, 1, 1);
+    let o = aipsio::objects::open(s, m, 8, 0x53534d496e646578, 0x53534d496e646578, 1, 2);
     let entries = aipsio::numbers::uint(s, o.next);
     let per = aipsio::numbers::number(s, entries.next, Width::Four, 1, 8388608);
     let columns = aipsio::numbers::uint(s, per.next);
     let free = aipsio::objects::map(s, columns.next);
-    let each = width.bytes();
-    let lasts = aipsio::objects::block(s, free, entries.value, each);
+    let wide = o.value == 2;
+    let width = Width::of_int(wide);
+    let lasts = aipsio::objects::row_block(s, free, entries.value, width);
     let buckets = aipsio::objects::block(s, lasts.next, entries.value, 4);
     let next = aipsio::objects::close(buckets.next, m);
     SetRead {
@@ -32,6 +33,7 @@ fn read_set(s: &[u8], c: Cursor, width: Width) -> SetRead
             entries: entries.value,
             per: per.value,
             columns: columns.value,
+            wide: wide,
             lasts: lasts.value,
             buckets: buckets.value,
         },
@@ -47,22 +49,23 @@ pub fn no_set() -> Set
         entries: 0,
         per: 0,
         columns: 0,
+        wide: false,
         lasts: 0,
         buckets: 0,
     }
 }
 
 // n sets from the cursor.
-fn read_sets(s: &[u8], c: Cursor, width: Width, n: usize) -> Sets
+fn read_sets(s: &[u8], c: Cursor, n: usize) -> Sets
     requires { ⌜ n ≤ 16 ⌝ }
-    ensures { λ r. ⌜ r ≡ setsAt (now (s .entry)) c width n ⌝ }
+    ensures { λ r. ⌜ r ≡ setsAt (now (s .entry)) c n ⌝ }
 {
     let none = no_set();
     let mut sets = [none; 16];
     let mut next = c;
     let mut i = 0;
     while i < n {
-        let read = read_set(s, next, width);
+        let read = read_set(s, next);
         let one = read.set;
         sets[i] = one;
         next = read.next;
@@ -97,7 +100,7 @@ fn answer_index(c: Cursor, all: Sets) -> Index
 pub fn read_index(text: &[u8], big: bool, n: usize) -> Index
     requires { ⌜ n ≤ 16 ⌝ }
     ensures { λ r. ⌜ r ≡ indexAt (now (text .entry)) big n ⌝ }
-    ensures inside { λ r. ⌜ (r .refused .number ≡ 0 → (k : ℕ) → k < n → SetInside (length (now (text .entry))) 4 (getD (r .sets) k noSet)) ⌝ }
+    ensures inside { λ r. ⌜ (r .refused .number ≡ 0 → (k : ℕ) → k < n → SetInside (length (now (text .entry))) (getD (r .sets) k noSet)) ⌝ }
 {
     let start = Cursor {
         at: 0,
@@ -105,7 +108,7 @@ pub fn read_index(text: &[u8], big: bool, n: usize) -> Index
         big: big,
         refused: 0,
     };
-    let all = read_sets(text, start, Width::Four, n);
+    let all = read_sets(text, start, n);
     let end = all.next;
     let at = end.at;
     let e = aipsio::judge(end, at, at == end.end, 7);

@@ -5,7 +5,6 @@ use mathlib.Core.Bool.{Bool}
 use Prim.Native.Nat.{ℕ}
 use lib.Dec.{eqb}
 use Rattle.bytes_at.specs.declared.Refusal.{Refusal}
-use Rattle.bytes_at.specs.declared.Width.{Width}
 use Rattle.bytes_at.specs.Stages.{OthersCarry0}
 use Rattle.bytes_at.specs.Steps.{_>>=_}
 use Rattle.bytes_at.proofs.Stages.{others-none, others-then, others-or, others-blaming, others-either}
@@ -17,7 +16,7 @@ use Rattle.standard_rules.specs.declared.Sets.{Sets}
 use Rattle.standard_rules.specs.declared.Header.{Header}
 use Rattle.standard_rules.specs.declared.Index.{Index}
 use Rattle.standard_rules.specs.Header.{headed, headerAt}
-use Rattle.standard_rules.specs.Index.{indexed, indexIn}
+use Rattle.standard_rules.specs.Index.{indexed, indexAt}
 use Rattle.standard_rules.specs.Check.{refusalWith, refusalOf}
 
 headed-others : (c : Cursor) (b : BucketFields) (i : IndexFields) → OthersCarry0 (headed c b i .refused)
@@ -34,9 +33,9 @@ unfolding indexed
 indexed-others c all =
     others-either (λ (x : Index). x .refused) (eqb (c .refused) 0) _ _ others-none (others-blaming (c .refused) (c .at))
 
-index-others : (s : List ℕ) (big : Bool) (width : Width) (n : ℕ) → OthersCarry0 (indexIn s big width n .refused)
-unfolding indexIn _>>=_
-index-others s big width n = indexed-others _ _
+index-others : (s : List ℕ) (big : Bool) (n : ℕ) → OthersCarry0 (indexAt s big n .refused)
+unfolding indexAt _>>=_
+index-others s big n = indexed-others _ _
 
 pub refusal-others : (d : Description) (sequence : ℕ) (f : List ℕ) (refused : Refusal) (l : ℕ) → OthersCarry0 refused → OthersCarry0 (refusalOf d sequence f refused l)
 unfolding refusalWith
@@ -46,6 +45,6 @@ refusal-others d sequence f refused l h =
     (others-then _ _ (others-or _ 1 _)
     (others-then _ _ (others-or _ 13 _)
     (others-then _ _ (others-or _ 10 _)
-    (others-then _ _ (index-others _ _ _ _)
+    (others-then _ _ (index-others _ _ _)
     (others-then _ _ (others-or _ 10 _)
     (others-or _ 11 _)))))))

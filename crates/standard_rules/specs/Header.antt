@@ -27,7 +27,7 @@ sameEndian flag big = cond big (eqb flag 1) (eqb flag 0)
 -- cache size, number of free buckets, first free bucket
 unfoldable pub bucketFieldsAt : List ℕ → Cursor → BucketFields
 bucketFieldsAt s c = do
-  o ← opened s c (bytes "StandardStMan") 3 3
+  o ← opened s c (bytes "StandardStMan") 3 4
   flag ← flagAt s (o .next)
   same ← sameEndian (flag .value) (c .big)
   d ← judged (flag .next) (o .next .at) same 6

@@ -1,25 +1,23 @@
 -- RULES.md 5.3 to 5.5, and Note 260, 3.4.2, Index Buckets: the chain of index buckets or the offset in one, the index text,
 -- and the free list.
 use Prim.Native.Nat.{ℕ, _+_, zero, suc, _-_, _*_}
-use mathlib.Core.Bool.{true, Bool, _&&_, cond}
+use mathlib.Core.Bool.{true, false, Bool, _&&_, cond}
 use mathlib.Core.List.{List, [], _∷_, _++_}
 use lib.Dec.{ltb, eqb, leb}
 use lib.ListN.{take, drop, length, set, replicate}
-use Rattle.bytes_at.specs.Number.{uintOf, bytesOf}
+use Rattle.bytes_at.specs.Number.{uintOf, bytesOf, intWidth}
 use Rattle.standard_rules.specs.Header.{bucketStart}
 use Rattle.standard_rules.specs.declared.Header.{Header}
-use Rattle.bytes_at.specs.declared.Width.{Width}
 use Rattle.bytes_at.specs.Bytes.{bytes}
 use Rattle.bytes_at.specs.Steps.{_>>=_, after}
 use Rattle.bytes_at.specs.Stages.{noRefusal}
 use Rattle.aipsio_rules.specs.declared.Cursor.{Cursor}
 use Rattle.aipsio_rules.specs.Field.{minusOne, refusalIn, uintAt, numberAt, markAt, judged}
-use Rattle.aipsio_rules.specs.Object.{opened, closed, blockAt, mapAt}
+use Rattle.aipsio_rules.specs.Object.{opened, closed, blockAt, rowBlockAt, mapAt}
 use Rattle.standard_rules.specs.declared.SetRead.{SetRead}
 use Rattle.standard_rules.specs.declared.Set.{Set}
 use Rattle.standard_rules.specs.declared.Sets.{Sets}
 use Rattle.standard_rules.specs.declared.Index.{Index}
-use Rattle.bytes_at.specs.declared.Width.the-variants.{Four}
 
 -- "Links in index chains and free chains are big endian in every table." A link is an Int; this one is -1: no bucket.
 abbrev pub noBucket : ℕ
@@ -82,19 +80,20 @@ indexText f size k b offset n =
 unfoldable pub indexTextOf : List ℕ → Header → List ℕ
 indexTextOf f h = indexText f (h .size) (h .«index_count») (h .«first_index») (h .offset) (h .length)
 
--- "one SSMIndex (version 1) per set, each with mark: the note's fields, then a Block of bucket numbers": number of entries,
--- "rows per bucket 1 to 8,388,608", number of columns, free-space map, last rows of the width given, bucket numbers.
+-- "one SSMIndex (version 1 or 2) per set, each with mark: the note's fields, then a Block of bucket numbers": number of entries,
+-- "rows per bucket 1 to 8,388,608", number of columns, free-space map, last rows, which are Int64 in version 2, bucket numbers.
 -- "Both Blocks' lengths equal the entry count (else 6)."
-unfoldable pub ssmIndexAt : List ℕ → Cursor → Width → SetRead
-ssmIndexAt s c width = do
+unfoldable pub ssmIndexAt : List ℕ → Cursor → SetRead
+ssmIndexAt s c = do
   m ← markAt s c
-  o ← opened s m (bytes "SSMIndex") 1 1
+  o ← opened s m (bytes "SSMIndex") 1 2
   entries ← uintAt s (o .next)
   per ← numberAt s (entries .next) 4 1 8388608
   columns ← uintAt s (per .next)
   free ← mapAt s (columns .next)
-  each ← bytesOf width
-  lasts ← blockAt s free (entries .value) each
+  wide ← eqb (o .value) 2
+  width ← intWidth wide
+  lasts ← rowBlockAt s free (entries .value) (bytesOf width)
   buckets ← blockAt s (lasts .next) (entries .value) 4
   d ← closed (buckets .next) m
   record {
@@ -102,6 +101,7 @@ ssmIndexAt s c width = do
       entries = entries .value;
       per = per .value;
       columns = columns .value;
+      wide = wide;
       lasts = lasts .value;
       buckets = buckets .value;
     };
@@ -110,12 +110,12 @@ ssmIndexAt s c width = do
 
 -- no set: zeros
 abbrev pub noSet : Set
-noSet = record { entries = 0; per = 0; columns = 0; lasts = 0; buckets = 0 }
+noSet = record { entries = 0; per = 0; columns = 0; wide = false; lasts = 0; buckets = 0 }
 
 -- one set more, at i
-unfoldable pub setInto : List ℕ → Width → Sets → ℕ → Sets
-setInto s width all i = do
-  read ← ssmIndexAt s (all .next) width
+unfoldable pub setInto : List ℕ → Sets → ℕ → Sets
+setInto s all i = do
+  read ← ssmIndexAt s (all .next)
   record { sets = set (all .sets) i (read .set); next = read .next }
 
 -- no set yet
@@ -123,8 +123,8 @@ abbrev pub noSets : Cursor → Sets
 noSets c = record { sets = replicate 16 noSet; next = c }
 
 -- n sets
-unfoldable pub setsAt : List ℕ → Cursor → Width → ℕ → Sets
-setsAt s c width n = after (setInto s width) (noSets c) n
+unfoldable pub setsAt : List ℕ → Cursor → ℕ → Sets
+setsAt s c n = after (setInto s) (noSets c) n
 
 -- "A refusal carries its number and zeros", and beside them its byte: "In index text bytes count from its start".
 unfoldable pub indexed : Cursor → Sets → Index
@@ -133,17 +133,13 @@ indexed c all =
     (record { sets = all .sets; refused = noRefusal })
     (record { sets = replicate 16 noSet; refused = refusalIn c })
 
--- the n sets of an index text of a table of this endianness, with last rows of the width given.
+-- the n sets of an index text of a table of this endianness.
 -- 7 where the "index text has a length other than its fields use": "text left over fails at its first byte"
-unfoldable pub indexIn : List ℕ → Bool → Width → ℕ → Index
-indexIn s big width n = do
-  all ← setsAt s (record { at = 0; end = length s; big = big; refused = 0 }) width n
+unfoldable pub indexAt : List ℕ → Bool → ℕ → Index
+indexAt s big n = do
+  all ← setsAt s (record { at = 0; end = length s; big = big; refused = 0 }) n
   e ← judged (all .next) (all .next .at) (eqb (all .next .at) (all .next .end)) 7
   indexed e all
-
--- last rows are uInts
-abbrev pub indexAt : List ℕ → Bool → ℕ → Index
-indexAt s big n = indexIn s big Four n
 
 -- "Free chain (free list): exactly the stated number, first 4 bytes big endian, -1 ends it."
 unfoldable pub freeOk : List ℕ → ℕ → ℕ → ℕ → ℕ → Bool

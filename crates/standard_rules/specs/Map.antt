@@ -6,7 +6,7 @@ use lib.ListN.{getD, length}
 use lib.Dec.{T, eqb, leb, ltb}
 use mathlib.Core.Path.{_≡_}
 use mathlib.Core.Logic.{_↔_}
-use Rattle.bytes_at.specs.Number.{numbersAt}
+use Rattle.bytes_at.specs.Number.{intBytes, numbersAt}
 use Rattle.standard_rules.specs.declared.Set.{Set}
 use Rattle.standard_rules.specs.Index.{noSet, links, indexAt, indexTextOf}
 use Rattle.table_rules.specs.declared.Column.{Column}
@@ -66,12 +66,13 @@ pub record Kept (m : Map) (c : ℕ) : Type 0 where
 
 -- What the bytes say.
 
--- a set: its last rows and its bucket numbers are the elements of its two Blocks, in the table's endianness
+-- a set: its last rows, which have the set's own width, and its bucket numbers are the elements of its two Blocks, in the table's
+-- endianness
 abbrev pub mapSet : Bool → List ℕ → Set → MapSet
 mapSet big text s = record {
   rowsPer = s .per;
   columns = s .columns;
-  lasts = numbersAt big 4 text (s .lasts) (s .entries);
+  lasts = numbersAt big (intBytes (s .wide)) text (s .lasts) (s .entries);
   buckets = numbersAt big 4 text (s .buckets) (s .entries);
 }
 

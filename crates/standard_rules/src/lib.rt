@@ -36,12 +36,13 @@ pub struct Header {
     pub refused: Refusal,
 }
 
-// A set of columns: its numbers of entries, of rows in a bucket and of columns, and where in the text its last rows and its
-// bucket numbers start.
+// A set of columns: its numbers of entries, of rows in a bucket and of columns; whether its last rows are Int64; and where in the
+// text its last rows and its bucket numbers start.
 pub struct Set {
     pub entries: usize,
     pub per: usize,
     pub columns: usize,
+    pub wide: bool,
     pub lasts: usize,
     pub buckets: usize,
 }

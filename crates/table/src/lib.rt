@@ -11,11 +11,11 @@ use table_rules::Description;
 use table_rules::TableDescHead;
 use table_rules::TableHead;
 
-// Row count, endianness and table type.
+// Row count, which is not judged here, endianness and table type.
 fn read_head(s: &[u8], c: Cursor) -> TableHead
     ensures { λ r. ⌜ r ≡ tableHeadAt (now (s .entry)) c ⌝ }
 {
-    let rows = aipsio::numbers::number(s, c, Width::Four, 0, 2147483647);
+    let rows = aipsio::numbers::uint(s, c);
     let endian = aipsio::numbers::code(s, rows.next, 0, 1);
     let kind = aipsio::strings::name(s, endian.next, b"PlainTable");
     TableHead {
@@ -112,7 +112,7 @@ pub fn describe(s: &[u8]) -> Description
     let columns = cs.columns;
     Description {
         refused: Refusal { number: 0, byte: 0 },
-        rows: head.rows,
+        rows: set.rows,
         big: head.big,
         column_count: n.count,
         manager_count: set.count,

@@ -1,6 +1,8 @@
 // The beginning of ColumnSet and the data managers of a table (RULES.md 4.6 and 4.7; Note 260, 3.1.2: ColumnSet).
 ghost use mathlib.Core.Path.{_≡_};
 ghost use Prim.Native.Nat.{_≤_};
+ghost use mathlib.Core.Bool.{_||_};
+ghost use lib.Dec.{eqb};
 ghost use Rattle.table_rules.specs.ColumnSet.{kindOf, columnSetHeadAt, firstNumber, isNew, noManager, managersAt};
 use aipsio_rules::Cursor;
 use bytes_at::Width;
@@ -37,18 +39,33 @@ pub fn kind_of(name: &[u8]) -> Kind
     Kind::Other
 }
 
-// Version -2, the row count, which is the table's (else 6), the highest sequence number, and the number of managers.
+// Whether a row count is one with that of Table's header, which an Int64 is not compared with.
+fn counts_agree(wide: bool, own: usize, rows: usize) -> bool
+    ensures { λ r. ⌜ r ≡ wide || eqb own rows ⌝ }
+{
+    if wide {
+        return true;
+    }
+    own == rows
+}
+
+// Version -2 or -3, the row count, the highest sequence number, and the number of managers. In version -2 the row count is the one
+// given, that of Table's header, else 6; in version -3 it is an Int64.
 pub fn read_head(s: &[u8], c: Cursor, rows: usize) -> ColumnSetHead
     ensures { λ r. ⌜ r ≡ columnSetHeadAt (now (s .entry)) c rows ⌝ }
     ensures bounded { λ r. ⌜ r .count ≤ 16 ⌝ }
 {
-    let v = aipsio::numbers::version(s, c, 4294967294, 4294967294);
-    let r = aipsio::numbers::number(s, v.next, Width::Four, 0, 2147483647);
-    let k = aipsio::judge(r.next, v.next.at, r.value == rows, 6);
+    let v = aipsio::numbers::version(s, c, 4294967293, 4294967294);
+    let wide = v.value == 4294967293;
+    let width = Width::of_int(wide);
+    let r = aipsio::numbers::number(s, v.next, width, 0, 4611686018427387904);
+    let ok = counts_agree(wide, r.value, rows);
+    let k = aipsio::judge(r.next, v.next.at, ok, 6);
     let highest = aipsio::numbers::uint(s, k);
     let n = aipsio::numbers::number(s, highest.next, Width::Four, 1, 16);
     let next = n.next;
     ColumnSetHead {
+        rows: r.value,
         highest: highest.value,
         count: n.value,
         next: next,

@@ -15,9 +15,9 @@ use Rattle.aipsio_rules.specs.Field.{refusalIn}
 use Rattle.aipsio_rules.proofs.Bounds.{ranged-le}
 use Rattle.table_rules.specs.ColumnDesc.{noColumn, columnInto, noColumns, columnsAt}
 use Rattle.table_rules.specs.declared.Owner.{Owner}
-use Rattle.table_rules.specs.ColumnSet.{noBinding, bindingsAt}
+use Rattle.table_rules.specs.ColumnSet.{mostRows, noBinding, columnSetHeadAt, bindingsAt}
 use Rattle.table_rules.specs.declared.Description.{Description}
-use Rattle.table_rules.specs.Table.{tableHeadAt, tableDescHeadAt, describedAs, refusedTable}
+use Rattle.table_rules.specs.Table.{tableDescHeadAt, describedAs, refusedTable, EveryRowCount}
 use Rattle.table_rules.proofs.WholeBytes.{Whole, no-columns-whole, columns-whole}
 
 -- the loops that fill the columns and their bindings keep the 64 places
@@ -36,7 +36,7 @@ bindings-long s owners told sets offsets zero = length-replicate 64 noBinding
 bindings-long s owners told sets offsets (suc n) = length-set (bindingsAt s owners told sets offsets n) n _ ∙ bindings-long s owners told sets offsets n
 
 pub record Described (d : Description) : Type 0 where
-  pub rows-most : d .rows ≤ 2147483647
+  pub rows-most : d .rows ≤ mostRows
   pub columns-most : d .«column_count» ≤ 64
   pub columns-places : length (d .columns) ≡ 64
   pub bindings-places : length (d .bindings) ≡ 64
@@ -45,9 +45,9 @@ pub record Described (d : Description) : Type 0 where
   -- a byte other than 0 stands beside a refusal of 1 to 7 only
   pub others : OthersCarry0 (d .refused)
 
-head-most : (s : List ℕ) (c : Cursor) → tableHeadAt s c .rows ≤ 2147483647
-unfolding tableHeadAt _>>=_
-head-most s c = ranged-le s c 4 0 2147483647 3
+head-most : (s : List ℕ) (c : Cursor) (rows : ℕ) → columnSetHeadAt s c rows .rows ≤ mostRows
+unfolding columnSetHeadAt _>>=_
+head-most s c rows = ranged-le s _ _ 0 mostRows 3
 
 pub count-most : (s : List ℕ) (c : Cursor) → tableDescHeadAt s c .count ≤ 64
 unfolding tableDescHeadAt _>>=_
@@ -76,11 +76,11 @@ line a next h = h a refl
 pub described : (t : List ℕ) → Described (describedAs t)
 unfolding describedAs
 described t =
-    line _ _ (λ c _. line _ _ (λ m _. line _ _ (λ u _. line _ _ (λ head e. line _ _ (λ o _. line _ _ (λ n k. line _ _ (λ cs x. line _ _ (λ end _. line _ _ (λ set _.
+    line _ _ (λ c _. line _ _ (λ m _. line _ _ (λ u _. line _ _ (λ head _. line _ _ (λ o _. line _ _ (λ n k. line _ _ (λ cs x. line _ _ (λ end _. line _ _ (λ set e.
     line _ _ (λ ms _. line _ _ (λ os _. line _ _ (λ is _. line _ _ (λ d _. line _ _ (λ bs y.
     either (eqb (d .refused) 0) _ _
     (record {
-      rows-most = rw e (head-most t (u .next));
+      rows-most = rw e (head-most t end (head .rows));
       columns-most = rw k (count-most t (o .next));
       columns-places = rw x (columns-long t (n .next) (n .count));
       bindings-places = rw y (bindings-long t (os .owners) (is .told) (is .sets) (is .offsets) (n .count));
@@ -88,3 +88,6 @@ described t =
       others = others-none;
     })
     (refused (refusalIn d) (others-blaming (d .refused) (d .at)))))))))))))))))
+
+pub every-row-count : EveryRowCount
+every-row-count t = described t .rows-most

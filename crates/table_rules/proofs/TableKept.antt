@@ -7,7 +7,7 @@ use lib.Dec.{eqb, leb}
 use Rattle.bytes_at.specs.Steps.{_>>=_}
 use Rattle.aipsio_rules.specs.declared.Cursor.{Cursor}
 use Rattle.aipsio_rules.specs.declared.Text.{Text}
-use Rattle.aipsio_rules.specs.Field.{minusTwo, settled, flagAt, containerOf}
+use Rattle.aipsio_rules.specs.Field.{minusTwo, minusThree, settled, flagAt, containerOf}
 use Rattle.aipsio_rules.specs.Object.{ipositionAt, shapeAt}
 use Rattle.aipsio_rules.proofs.Kept.{Keeps, keeps-same, after-keeps, judged-keeps, skipped-keeps, settled-reads, uint-reads, ranged-reads, any-string-reads, container-keeps, string-reads, _⨟_}
 use Rattle.aipsio_rules.proofs.Ends.{mark-stays}
@@ -22,7 +22,7 @@ use Rattle.table_rules.specs.declared.Kind.{Kind}
 use Rattle.table_rules.specs.declared.Kind.the-variants.{Other, Standard, Incremental}
 use Rattle.table_rules.specs.declared.InfoRead.{InfoRead}
 use Rattle.table_rules.specs.declared.Infos.{Infos}
-use Rattle.table_rules.specs.ColumnSet.{columnSetHeadAt, managerInto, managersAt, sequenceAt, ownShapeAt, ownerInto, ownersAt, isObject, listsIn, ssmAt, ismAt, afterObject, infoIn, infoAt, infoInto, infosAt}
+use Rattle.table_rules.specs.ColumnSet.{mostRows, columnSetHeadAt, managerInto, managersAt, sequenceAt, ownShapeAt, ownerInto, ownersAt, isObject, listsIn, ssmAt, ismAt, afterObject, infoIn, infoAt, infoInto, infosAt}
 
 -- one of two ways
 cond-keeps : (b : Bool) {c d e : Cursor} → Keeps c d → Keeps c e → Keeps c (cond b d e)
@@ -92,7 +92,7 @@ module _ (s : List ℕ) (c : Cursor) where
   pub set-head-keeps : (rows : ℕ) → Keeps c (columnSetHeadAt s c rows .next)
   unfolding columnSetHeadAt _>>=_
   set-head-keeps rows =
-      ranged-reads s c 4 minusTwo minusTwo 3 .keeps ⨟ ranged-reads s _ 4 0 2147483647 4 .keeps ⨟ judged-keeps _ _ _ 6 ⨟ uint-reads s _ .keeps
+      ranged-reads s c 4 minusThree minusTwo 3 .keeps ⨟ ranged-reads s _ _ 0 mostRows 4 .keeps ⨟ judged-keeps _ _ _ 6 ⨟ uint-reads s _ .keeps
       ⨟ ranged-reads s _ 4 1 16 4 .keeps
 
   sequence-keeps : Keeps c (sequenceAt s c .next)

@@ -3,12 +3,12 @@ use Prim.Native.Nat.{ℕ, _+_, _-_, _*_}
 use mathlib.Core.Path.{_≡_}
 use mathlib.Core.List.{List}
 use lib.Dec.{eqb, leb, ltb}
-use mathlib.Core.Bool.{cond, Bool, true, false, _&&_}
+use mathlib.Core.Bool.{cond, Bool, true, false, _&&_, _||_}
 use lib.ListN.{getD, take, drop, set, replicate}
 use Rattle.bytes_at.specs.Steps.{_>>=_, after}
 use Rattle.aipsio_rules.specs.declared.Cursor.{Cursor}
 use Rattle.aipsio_rules.specs.declared.Text.{Text}
-use Rattle.aipsio_rules.specs.Field.{minusTwo, judged, uintAt, numberAt, versionAt, stringAt, flagAt, markAt, textAt, containerOf}
+use Rattle.aipsio_rules.specs.Field.{minusTwo, minusThree, judged, uintAt, numberAt, versionAt, stringAt, flagAt, markAt, textAt, containerOf}
 use Rattle.table_rules.specs.declared.ColumnSetHead.{ColumnSetHead}
 use Rattle.bytes_at.specs.Bytes.{bytes, sameBytes}
 use Rattle.table_rules.specs.declared.Kind.{Kind}
@@ -24,17 +24,25 @@ use Rattle.table_rules.specs.declared.Info.{Info}
 use Rattle.table_rules.specs.declared.InfoRead.{InfoRead}
 use Rattle.table_rules.specs.declared.Infos.{Infos}
 use Rattle.table_rules.specs.declared.Binding.{Binding}
-use Rattle.bytes_at.specs.Number.{uintOf, numberIn}
+use Rattle.bytes_at.specs.Number.{bytesOf, intWidth, uintOf, numberIn}
 
--- "ColumnSet version -2", the row count, which is the table's (else 6), the highest sequence number, "managers 1 to 16"
+-- "rows 0 to 2 to the power 62"
+abbrev pub mostRows : ℕ
+mostRows = 4611686018427387904
+
+-- "ColumnSet version -2 or -3", the row count, an Int64 in version -3, the highest sequence number, "managers 1 to 16".
+-- In version -2 the row count is the one in Table's header (else 6); "With ColumnSet -3 the count in the Table header is not compared."
 unfoldable pub columnSetHeadAt : List ℕ → Cursor → ℕ → ColumnSetHead
 columnSetHeadAt s c rows = do
-  v ← versionAt s c minusTwo minusTwo
-  r ← numberAt s (v .next) 4 0 2147483647
-  k ← judged (r .next) (v .next .at) (eqb (r .value) rows) 6
+  v ← versionAt s c minusThree minusTwo
+  wide ← eqb (v .value) minusThree
+  width ← intWidth wide
+  r ← numberAt s (v .next) (bytesOf width) 0 mostRows
+  ok ← wide || eqb (r .value) rows
+  k ← judged (r .next) (v .next .at) ok 6
   highest ← uintAt s k
   n ← numberAt s (highest .next) 4 1 16
-  record { highest = highest .value; count = n .value; next = n .next }
+  record { rows = r .value; highest = highest .value; count = n .value; next = n .next }
 
 -- "A manager's kind is its name"
 unfoldable pub kindOf : List ℕ → Kind

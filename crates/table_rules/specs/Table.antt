@@ -1,5 +1,5 @@
 -- RULES.md 4.1, 4.2, 4.10 and 4.11, and Note 260, 3.1: Table, TableDesc; the questions Description and Column by name.
-use Prim.Native.Nat.{ℕ, _<_}
+use Prim.Native.Nat.{ℕ, _≤_, _<_}
 use mathlib.Core.Path.{_≡_}
 use mathlib.Core.List.{List}
 use lib.ListN.{length, replicate, getD}
@@ -7,13 +7,13 @@ use lib.Dec.{leb, eqb, ltb}
 use mathlib.Core.Bool.{true, false, cond}
 use Rattle.bytes_at.specs.Bytes.{bytes}
 use Rattle.aipsio_rules.specs.declared.Cursor.{Cursor}
-use Rattle.aipsio_rules.specs.Field.{refusalIn, judged, numberAt, codeAt, nameAt, stringAt, markAt}
+use Rattle.aipsio_rules.specs.Field.{refusalIn, judged, uintAt, numberAt, codeAt, nameAt, stringAt, markAt}
 use Rattle.bytes_at.specs.Steps.{_>>=_}
 use Rattle.table_rules.specs.declared.TableHead.{TableHead}
 use Rattle.aipsio_rules.specs.Object.{recordAt, opened, closed}
 use Rattle.table_rules.specs.declared.TableDescHead.{TableDescHead}
 use Rattle.table_rules.specs.ColumnDesc.{noColumn, columnsAt, firstNamed}
-use Rattle.table_rules.specs.ColumnSet.{noManager, noBinding, columnSetHeadAt, managersAt, infosAt, bindingsAt, ownersAt}
+use Rattle.table_rules.specs.ColumnSet.{mostRows, noManager, noBinding, columnSetHeadAt, managersAt, infosAt, bindingsAt, ownersAt}
 use Rattle.table_rules.specs.declared.Description.{Description}
 use Rattle.table_rules.specs.declared.Column.{Column}
 use Rattle.table_rules.specs.declared.Binding.{Binding}
@@ -26,10 +26,10 @@ use Rattle.bytes_at.specs.Stages.{noRefusal, _▷_, orNo, OthersCarry0}
 abbrev pub wholeOf : List ℕ → Cursor
 wholeOf s = judged (record { at = 0; end = length s; big = true; refused = 0 }) 65536 (leb (length s) 65536) 4
 
--- "rows 0 to 2,147,483,647", endianness 0 or 1 (else 5), "table type PlainTable"
+-- the row count as a uInt, endianness 0 or 1 (else 5), "table type PlainTable"
 unfoldable pub tableHeadAt : List ℕ → Cursor → TableHead
 tableHeadAt s c = do
-  rows ← numberAt s c 4 0 2147483647
+  rows ← uintAt s c
   endian ← codeAt s (rows .next) 0 1
   kind ← nameAt s (endian .next) (bytes "PlainTable")
   record { rows = rows .value; big = eqb (endian .value) 1; next = kind }
@@ -58,7 +58,7 @@ refusedTable why = record {
   big = false;
 }
 
--- Description: Table version 2, TableDesc version 2 inside it, and after that the ColumnSet
+-- Description: Table version 2, TableDesc version 2 inside it, and after that the ColumnSet, whose row count is the table's
 unfoldable pub describedAs : List ℕ → Description
 describedAs s = do
   c ← wholeOf s
@@ -78,7 +78,7 @@ describedAs s = do
   cond (eqb (d .refused) 0)
       (record {
         refused = noRefusal;
-        rows = head .rows;
+        rows = set .rows;
         «column_count» = n .count;
         «manager_count» = set .count;
         columns = cs .columns;
@@ -94,6 +94,10 @@ columnIn d position = getD (d .columns) position noColumn
 
 abbrev pub bindingIn : Description → ℕ → Binding
 bindingIn d position = getD (d .bindings) position noBinding
+
+-- The row range: of every table, refused ones too.
+abbrev pub EveryRowCount : Type 0
+EveryRowCount = (t : List ℕ) → describedAs t .rows ≤ mostRows
 
 -- Cell bits are never 0: of every table that is not refused, every column.
 abbrev pub EveryColumnHasBits : Type 0

@@ -64,8 +64,9 @@ pub struct Columns {
     pub arrays: [bool; 64],
 }
 
-// The highest sequence number and the number of managers, and the cursor past them.
+// The table's row count, the highest sequence number and the number of managers, and the cursor past them.
 pub struct ColumnSetHead {
+    pub rows: usize,
     pub highest: usize,
     pub count: usize,
     pub next: Cursor,

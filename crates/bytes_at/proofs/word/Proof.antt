@@ -1,6 +1,6 @@
 use native.Mathlib.Omega.{arith}
 use borrow.Author.Needs.{needs}
-use Rattle.bytes_at.proofs.Numbers.{no-number, a-word}
+use Rattle.bytes_at.proofs.Numbers.{no-number}
 use Rattle.bytes_at.proofs.word.Statement.{statement}
 use Rattle.bytes_at.proofs.word.Tie as tie
 
@@ -11,4 +11,4 @@ word-spec =
     (λ c. search needs)
     (λ c. (no-number _ 4 _ _ (omega arith) (omega arith), omega arith))
     (λ c κs. search needs)
-    (λ c. a-word _ _ (c .before .before .before .shared-slice-known .given) _ (c .word-there .ensures)))
+    (λ c. c .word-there .ensures))

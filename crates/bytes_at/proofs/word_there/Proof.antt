@@ -6,6 +6,6 @@ pub word-there-spec : {M : Type 1} → statement M
 word-there-spec =
     tie.close (tie.spec
     (λ c κs. search needs)
-    (λ c. rw (c .before .if1 .taken) (c .big-word .ensures .0))
+    (λ c. (rw (c .before .if1 .taken) (c .big-word .ensures .0), c .big-word .ensures .1))
     (λ c κs. search needs)
-    (λ c. rw (c .before .if1 .left) (c .little-word .ensures)))
+    (λ c. (rw (c .before .if1 .left) (c .little-word .ensures .0), c .little-word .ensures .1)))

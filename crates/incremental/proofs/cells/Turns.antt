@@ -17,8 +17,8 @@ use Rattle.bytes_at.proofs.Loops.{after-more, after-stop}
 use Rattle.bytes_at.proofs.Stepped.{via}
 use Rattle.aipsio_rules.specs.declared.Value.{Value}
 use Rattle.standard_rules.specs.Header.{bucketStart}
-use Rattle.bytes_at.specs.Number.{numberIn}
 use Rattle.incremental_rules.specs.declared.Index.{Index}
+use Rattle.incremental_rules.specs.Index.{firstRow, bucketNumber}
 use Rattle.incremental_rules.specs.Bucket.{bucketAt}
 use Rattle.incremental_rules.specs.declared.Cells.{Cells}
 use Rattle.incremental_rules.specs.declared.Found.{Found}
@@ -56,7 +56,7 @@ module _ (big : Bool) (f : List ℕ) (size : ℕ) (x : Index) (cells : Cells) (r
       found-stays _ _ _ _ h))))))))))
 
   module _ (start offset i : ℕ) {b first past at rows local : ℕ} {one : Value}
-      (eb : b ≡ numberIn big 4 f (x .buckets) i) (ef : first ≡ numberIn big 4 f (x .firsts) i) (ep : past ≡ numberIn big 4 f (x .firsts) (i + 1))
+      (eb : b ≡ bucketNumber big f x i) (ef : first ≡ firstRow big f x i) (ep : past ≡ firstRow big f x (i + 1))
       (ea : at ≡ bucketStart size b) (er : rows ≡ past - first) (el : local ≡ row - first)
       (eo : one ≡ bucketAt f at size big rows local (cells .column) (cells .bytes) (cells .count)) where
     pub bucket-on : {start′ offset′ : ℕ} → one .next .refused ≡ 0 → start′ ≡ cond (leb first row) at start → offset′ ≡ cond (leb first row) (one .value) offset

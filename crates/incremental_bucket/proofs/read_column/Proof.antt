@@ -9,7 +9,7 @@ use Rattle.incremental_bucket.proofs.read_column.Tie as tie
 
 returns-2 : tie.Need-returns-2
 returns-2 c = (
-  c .refuse .ensures ∙ column-short _ _ _ _ _ _ (c .before .before .before .if1 .left) (c .before .before .left .ensures) (omega arith),
+  c .refuse .ensures ∙ column-short _ _ _ _ _ _ _ (c .before .before .before .if1 .left) (c .before .before .left .ensures) (omega arith),
   ap (λ (v : Value). v .next .end) (c .refuse .ensures),
 )
 
@@ -18,19 +18,19 @@ word-there-requires c κs = omega (arith, c .before .left .ensures, c .before .b
 
 returns-3 : tie.Need-returns-3
 returns-3 c = (
-  c .refuse2 .ensures ∙ column-none _ _ _ _ _ _ (c .before .before .before .before .before .if1 .left) (c .before .before .before .before .left .ensures) (omega arith) (c .before .before .word-there .ensures) (c .before .if3 .taken),
+  c .refuse2 .ensures ∙ column-none _ _ _ _ _ _ _ (c .before .before .before .before .before .if1 .left) (c .before .before .before .before .left .ensures) (omega arith) (c .before .before .word-there .ensures .0) (c .before .if3 .taken),
   ap (λ (v : Value). v .next .end) (c .refuse2 .ensures),
 )
 
-add-t15 : tie.Need-add-t15
-add-t15 c = omega (arith, c .before .before .before .left .ensures, c .before .before .before .before .before .before .pre)
+add-t16 : tie.Need-add-t16
+add-t16 c = omega (arith, c .before .before .before .left .ensures, c .before .before .before .before .before .before .pre)
 
 read-offsets-requires : tie.Need-read-offsets-requires
 read-offsets-requires c κs = omega (arith, c .read-starts .ensures .1, c .before .before .before .before .before .before .before .pre)
 
 returns-4 : tie.Need-returns-4
 returns-4 c = (
-  column-on _ _ _ _ _ _ (c .before .before .before .before .before .before .if1 .left) (c .before .before .before .before .before .left .ensures) (omega arith) (c .before .before .before .word-there .ensures) (c .before .before .if3 .left) (c .before .read-starts .ensures .0) (c .read-offsets .ensures .0),
+  column-on _ _ _ _ _ _ _ (c .before .before .before .before .before .before .if1 .left) (c .before .before .before .before .before .left .ensures) (omega arith) (c .before .before .before .word-there .ensures .0) (c .before .before .if3 .left) (c .before .read-starts .ensures .0) (c .read-offsets .ensures .0),
   c .read-offsets .ensures .1 ∙ c .before .read-starts .ensures .1,
 )
 
@@ -38,14 +38,14 @@ pub read-column-spec : {M : Type 1} → statement M
 read-column-spec =
     tie.close
     (tie.spec
-    (λ c. (column-kept _ _ _ _ _ _ (c .if1 .taken), refl))
+    (λ c. (column-kept _ _ _ _ _ _ _ (c .if1 .taken), refl))
     free
     free
     returns-2
     word-there-requires
     free
     returns-3
-    add-t15
+    add-t16
     (λ c κs. c .before .before .before .before .before .before .pre)
     read-offsets-requires
     returns-4)

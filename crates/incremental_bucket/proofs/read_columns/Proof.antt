@@ -3,6 +3,7 @@ use Prim.Native.Nat.{_-_, _≤_}
 use mathlib.Core.Path.{_≡_, refl, _∙_}
 use native.Mathlib.Omega.{arith}
 use borrow.Author.Needs.{needs}
+use Rattle.bytes_at.specs.Number.{bytesOf}
 use Rattle.bytes_at.specs.Steps.{after}
 use Rattle.bytes_at.proofs.Loops.{after-none, after-more, after-all}
 use Rattle.bytes_at.proofs.Stepped.{via, free}
@@ -12,13 +13,13 @@ use Rattle.incremental_bucket.proofs.read_columns.Statement.{statement}
 use Rattle.incremental_bucket.proofs.read_columns.Tie as tie
 
 abbrev Inv-loop : tie.InvT-loop
-Inv-loop s limit rows row column bytes n offset₀ next₀ k₀ offset next k =
+Inv-loop s width limit rows row column bytes n offset₀ next₀ k₀ offset next k =
     (k ≤ n)
     × (next .end ≡ next₀ .end)
-    × (_≡_ {A = Value} (record { value = offset; next = next }) (after (columnPartInto s limit rows row column bytes) (record { value = 0; next = next₀ }) k))
+    × (_≡_ {A = Value} (record { value = offset; next = next }) (after (columnPartInto s (bytesOf width) limit rows row column bytes) (record { value = 0; next = next₀ }) k))
 
 abbrev μ-loop : tie.MeasureT-loop
-μ-loop s limit rows row column bytes n offset₀ next₀ k₀ offset next k = n - k
+μ-loop s width limit rows row column bytes n offset₀ next₀ k₀ offset next k = n - k
 
 read-column-requires : tie.Need-read-column-requires Inv-loop μ-loop
 read-column-requires c κs = omega (arith, c .before .before .loop .inv .1, c .before .before .before .before .pre .1)

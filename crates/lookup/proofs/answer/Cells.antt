@@ -21,7 +21,7 @@ use Rattle.standard_rules.specs.Check.{padded, refusalOf, checkedAs}
 use Rattle.standard_rules.specs.Map.{Map, MapColumn, columnAt, setAt, setOf, Kept, covers, mapSet, mapColumn, mapWith, mapOf}
 use Rattle.standard_rules.specs.Place.{Bits, placeOf}
 use Rattle.bytes_at.proofs.Tests.{is-true}
-use Rattle.bytes_at.specs.Number.{numbersAt}
+use Rattle.bytes_at.specs.Number.{intBytes, numbersAt}
 use Rattle.standard_rules.specs.declared.Set.{Set}
 use Rattle.standard_rules.specs.Header.{headerAt}
 use Rattle.standard_rules.specs.Index.{noSet, indexAt, indexTextOf}
@@ -32,9 +32,9 @@ use Rattle.incremental_rules.proofs.Places.{checked-there}
 use Rattle.standard_rules.specs.Looks.{Looks, looksOf}
 use Rattle.standard_rules.specs.declared.Entry.{Entry}
 use Rattle.standard.specs.declared.Located.{Located}
-use Rattle.standard.specs.Bit.{byHalving, bitByHalving, locatedBy, noCell}
-use Rattle.standard.proofs.place.Bits.{bit-is, looks-are, entry-known, some-entry}
-use Rattle.standard.proofs.place.Padded.{bit-same, halving-same}
+use Rattle.standard.specs.Bit.{byHalving, localBy, bitByHalving, locatedBy, noCell}
+use Rattle.standard.proofs.place.Bits.{bit-is, looks-are, local-below, entry-known, some-entry}
+use Rattle.standard.proofs.place.Padded.{bit-same, local-same, halving-same}
 use Rattle.lookup_rules.specs.declared.Plan.{Plan}
 use Rattle.lookup_rules.specs.declared.Question.{Question}
 use Rattle.lookup_rules.specs.declared.Request.{Request}
@@ -54,7 +54,7 @@ use Rattle.lookup.specs.Answering.{Findable, cellFound, answerWith}
 use Rattle.lookup.proofs.answer.Placing.{set-told, size-told, set-known, set-same, set-covered, set-inside, size-most}
 
 -- a set that lies in a text lies in a longer one
-longer : {a b : ℕ} {x : Set} → a ≤ b → SetInside a 4 x → SetInside b 4 x
+longer : {a b : ℕ} {x : Set} → a ≤ b → SetInside a x → SetInside b x
 longer h i = record {
   lasts-inside = omega (arith, i .lasts-inside);
   buckets-inside = omega (arith, i .buckets-inside);
@@ -117,7 +117,7 @@ module _ (t f : List ℕ) (r : Request) (l : ℕ) (z : stagesOf t f r l .refused
   map-set : setOf m c ≡ mapSet (d .big) text x
   map-set = ap (λ (k : MapColumn). setAt m (k .set)) column-is ∙ set-same d sequence f before l (b .set) listed
 
-  covered : T (covers (d .rows) (x .per) 0 (numbersAt (d .big) 4 text (x .lasts) (x .entries)))
+  covered : T (covers (d .rows) (x .per) 0 (numbersAt (d .big) (intBytes (x .wide)) text (x .lasts) (x .entries)))
   unfolding mapWith
   covered = rw (set-same d sequence f before l (b .set) listed) at (set-covered d sequence f before l passes (b .set) listed)
 
@@ -148,13 +148,20 @@ module _ (t f : List ℕ) (r : Request) (l : ℕ) (z : stagesOf t f r l .refused
       ap (λ (p : Plan). p .bits) (stages-plan t f r l) ∙ rw k (ap (λ (y : Column). y .bits) (target-described d r))
       ∙ sym (ap (λ (e : MapColumn). e .bits) column-is)
 
-  inside : SetInside (length text) 4 x
+  inside : SetInside (length text) x
   inside = set-inside d sequence f before l passes (b .set) listed
 
   module _ {y : List ℕ} (e : y ≡ padded l text) where
     text-fits : length text ≤ length y
     unfolding padded
     text-fits = rw e (omega (arith, length-append text (replicate (l - length text) 0)))
+
+    -- the row's number within its entry, in the room
+    local-there : localBy (d .big) y x row < x .per
+    unfolding padded
+    local-there =
+        rw (e, local-same (d .big) text (replicate (l - length text) 0) x row inside (entry-known (d .big) text x (d .rows) row covered below))
+        (local-below (d .big) text x (d .rows) row covered below)
 
     findable : stagesOf t f r l .plan .offset < 4294967296 → stagesOf t f r l .plan .bits ≤ 4294967296 → Findable y (stagesOf t f r l) row
     findable o n = record {
@@ -163,7 +170,7 @@ module _ (t f : List ℕ) (r : Request) (l : ℕ) (z : stagesOf t f r l .refused
       size-most = rw size-is (size-most d sequence f before l);
       offset-most = o;
       bits-most = n;
-      row-most = omega (arith, below, described t .rows-most);
+      local-below = rw (stages-big t f r l, set-is) local-there;
     }
 
     first-is : bitByHalving (stagesOf t f r l .big) y (stagesOf t f r l .set) (stagesOf t f r l .plan .size) (stagesOf t f r l .plan .offset) (stagesOf t f r l .plan .bits) row

@@ -7,7 +7,6 @@ use lib.Dec.{T}
 use lib.ListN.{length, getD}
 use borrow.Author.Tests.{eq-eqb}
 use Rattle.bytes_at.specs.declared.Refusal.{Refusal}
-use Rattle.bytes_at.specs.declared.Width.the-variants.{Four}
 use Rattle.bytes_at.proofs.Stages.{then-left, then-right}
 use Rattle.table_rules.specs.declared.Description.{Description}
 use Rattle.standard_rules.specs.Map.{columnAt, setAt, noMapSet, covers, Kept, mapSet, mapWith, mapOf}
@@ -57,8 +56,8 @@ module _ (d : Description) (sequence : ℕ) (f : List ℕ) (refused : Refusal) (
 
   -- its lists lie in the text
   pub set-inside : refusalOf d sequence f refused l .number ≡ 0 → (k : ℕ) → k < headerAt f (d .big) .sets
-      → SetInside (length (indexTextOf f (headerAt f (d .big)))) 4 (getD (indexAt (indexTextOf f (headerAt f (d .big))) (d .big) (headerAt f (d .big) .sets) .sets) k noSet)
-  set-inside z k h = index-inside _ (d .big) Four _ (header-bounds f (d .big) .sets-most) (index-passed z) k h
+      → SetInside (length (indexTextOf f (headerAt f (d .big)))) (getD (indexAt (indexTextOf f (headerAt f (d .big))) (d .big) (headerAt f (d .big) .sets) .sets) k noSet)
+  set-inside z k h = index-inside _ (d .big) _ (header-bounds f (d .big) .sets-most) (index-passed z) k h
 
   pub size-most : mapOf d sequence f .size ≤ 1048576
   unfolding mapWith

@@ -1,5 +1,5 @@
 -- Sets that are given by position, one after the other. Assumes nothing.
-use mathlib.Core.Path.{_≡_, refl, _∙_}
+use mathlib.Core.Path.{_≡_, refl, ap, _∙_}
 use mathlib.Core.Bool.{Bool, true, false, _&&_}
 use mathlib.Core.List.{List, [], _++_, append-assoc}
 use Prim.Native.Nat.{ℕ, zero, suc, _+_, _-_, _≤_, _<_}
@@ -10,28 +10,35 @@ use Rattle.standard_rules.specs.Map.{covers}
 use Rattle.bytes_at.specs.Lists.{allApart}
 use Rattle.buckets.proofs.marks.Decided.{marks-no, marks-all}
 use Rattle.buckets.proofs.marks.Marking.{Marks, marks-then}
-use Rattle.bytes_at.specs.Number.{numbersAt}
+use Rattle.bytes_at.specs.declared.Width.{Width}
+use Rattle.bytes_at.specs.Number.{bytesOf, intWidth, intBytes, numbersAt}
 use Rattle.standard.specs.Sets.{rowsFit, dataBy}
 
-module _ (rows : ℕ) (big : Bool) (text entries pers lasts : List ℕ) where
-  pub fit-none : (m k : ℕ) → m ≤ 0 → rowsFit rows big text entries pers lasts m k ≡ true
+module _ (rows : ℕ) (big : Bool) (text entries pers : List ℕ) (wides : List Bool) (lasts : List ℕ) where
+  pub fit-none : (m k : ℕ) → m ≤ 0 → rowsFit rows big text entries pers wides lasts m k ≡ true
   unfolding rowsFit
   fit-none zero k h = refl
   fit-none (suc m) k h = absurd (not-suc-le-zero h)
 
-  fit-more : (m k : ℕ) {r : Bool} → 0 < m → r ≡ covers rows (getD pers k 0) 0 (numbersAt big 4 text (getD lasts k 0) (getD entries k 0))
-      → rowsFit rows big text entries pers lasts m k ≡ r && rowsFit rows big text entries pers lasts (m - 1) (k + 1)
-  unfolding rowsFit
-  fit-more zero k h e = absurd (not-suc-le-zero h)
-  fit-more (suc m) k h e = rw (sub-one, add-one, e)
+  -- one set more, by the width of its last rows as the code has it
+  module _ (m k : ℕ) {width : Width} {r : Bool} (h : 0 < m) (w : width ≡ intWidth (getD wides k false))
+      (e : r ≡ covers rows (getD pers k 0) 0 (numbersAt big (bytesOf width) text (getD lasts k 0) (getD entries k 0))) where
+    fits-is : r ≡ covers rows (getD pers k 0) 0 (numbersAt big (intBytes (getD wides k false)) text (getD lasts k 0) (getD entries k 0))
+    fits-is = e ∙ ap (λ (x : Width). covers rows (getD pers k 0) 0 (numbersAt big (bytesOf x) text (getD lasts k 0) (getD entries k 0))) w
 
-  pub fit-on : (m k : ℕ) {r : Bool} → 0 < m → r ≡ covers rows (getD pers k 0) 0 (numbersAt big 4 text (getD lasts k 0) (getD entries k 0)) → r ≡ true
-      → rowsFit rows big text entries pers lasts m k ≡ rowsFit rows big text entries pers lasts (m - 1) (k + 1)
-  fit-on m k h e t = fit-more m k h e ∙ rw t
+    fit-more : rowsFit rows big text entries pers wides lasts m k ≡ r && rowsFit rows big text entries pers wides lasts (m - 1) (k + 1)
+    unfolding rowsFit
+    fit-more = more m h
+      where
+        more : (n : ℕ) → 0 < n → rowsFit rows big text entries pers wides lasts n k ≡ r && rowsFit rows big text entries pers wides lasts (n - 1) (k + 1)
+        more zero g = absurd (not-suc-le-zero g)
+        more (suc n) g = rw (sub-one, add-one, fits-is)
 
-  pub fit-off : (m k : ℕ) {r : Bool} → 0 < m → r ≡ covers rows (getD pers k 0) 0 (numbersAt big 4 text (getD lasts k 0) (getD entries k 0)) → r ≡ false
-      → rowsFit rows big text entries pers lasts m k ≡ false
-  fit-off m k h e t = fit-more m k h e ∙ rw t
+    pub fit-on : r ≡ true → rowsFit rows big text entries pers wides lasts m k ≡ rowsFit rows big text entries pers wides lasts (m - 1) (k + 1)
+    fit-on t = fit-more ∙ rw t
+
+    pub fit-off : r ≡ false → rowsFit rows big text entries pers wides lasts m k ≡ false
+    fit-off t = fit-more ∙ rw t
 
 module _ (big : Bool) (text entries buckets : List ℕ) where
   pub data-none : (m k : ℕ) → m ≤ 0 → dataBy big text entries buckets m k ≡ []

@@ -5,7 +5,6 @@ use mathlib.Core.Path.{_≡_, refl, sym, ap, _∙_}
 use mathlib.Core.Bool.{Bool, false}
 use mathlib.Core.List.{List, [], _∷_}
 use Prim.Native.Nat.{ℕ, zero, suc, _+_, _-_, _*_, _≤_, _<_}
-use native.Mathlib.Nat.{suc-mul}
 use native.Mathlib.Numerals.{sub-one}
 use native.Mathlib.Decide.{decLe}
 use native.Mathlib.Omega.{arith}
@@ -13,6 +12,7 @@ use lib.ListN.{length}
 use lib.Dec.{eqb}
 use borrow.Author.Tests.{le-leb, lt-leb, ne-eqb}
 use Rattle.bytes_at.specs.Number.{uintOf, numbersAt}
+use Rattle.bytes_at.proofs.Listed.{one-less}
 use Rattle.standard_rules.specs.Map.{covers}
 
 -- ---- the rule, one entry at a time
@@ -49,10 +49,6 @@ unfolding numbersAt
 numbers-cons big w s place zero h = absurd (omega arith)
 numbers-cons big w s place (suc left) h = rw sub-one
 
-widths : (left w : ℕ) → 0 < left → left * w ≡ (left - 1) * w + w
-widths zero w h = absurd (omega arith)
-widths (suc left) w h = rw sub-one (omega (arith, suc-mul left w))
-
 pub record Covering (big : Bool) (w : ℕ) (s : List ℕ) (rows per n at left place from : ℕ) : Type 0 where
   pub same : covers rows per 0 (numbersAt big w s at n) ≡ covers rows per from (numbersAt big w s place left)
   pub within : place + left * w ≤ length s
@@ -63,7 +59,7 @@ covering-start big w s rows per n at h = record { same = refl; within = h }
 module _ {big : Bool} {w : ℕ} {s : List ℕ} {rows per n at left place from : ℕ} (v : Covering big w s rows per n at left place from) where
   -- `size` is the width as the code has it
   pub covering-room : {size : ℕ} → size ≡ w → 0 < left → place + size ≤ length s
-  covering-room e h = omega (arith, widths left w h, v .within)
+  covering-room e h = omega (arith, one-less left w h, v .within)
 
   whole : {last : ℕ} → 0 < left → last ≡ uintOf big w s place
       → covers rows per 0 (numbersAt big w s at n) ≡ covers rows per from (last ∷ numbersAt big w s (place + w) (left - 1))
@@ -73,7 +69,7 @@ module _ {big : Bool} {w : ℕ} {s : List ℕ} {rows per n at left place from : 
       → Covering big w s rows per n at (left - 1) (place + size) (last + 1)
   covering-again q h e g l = rw q (record {
     same = whole h e ∙ covers-on rows per from _ g (omega arith);
-    within = omega (arith, widths left w h, v .within);
+    within = omega (arith, one-less left w h, v .within);
   })
 
   pub covering-low : {last : ℕ} → 0 < left → last ≡ uintOf big w s place → last < from → false ≡ covers rows per 0 (numbersAt big w s at n)

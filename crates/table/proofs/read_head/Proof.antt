@@ -9,7 +9,7 @@ use Rattle.table.proofs.read_head.Tie as tie
 returns : tie.Need-returns
 unfolding tableHeadAt
 returns c =
-    via _ (c .before .before .before .before .number .ensures .0) (
+    via _ (c .before .before .before .before .uint .ensures .0) (
     via _ (c .before .before .before .code .ensures .0) (
     via _ (c .before .name .ensures) (
     refl)))

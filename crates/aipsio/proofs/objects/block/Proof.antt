@@ -8,11 +8,10 @@ use Rattle.aipsio.proofs.objects.block.Tie as tie
 returns : tie.Need-returns
 unfolding blockAt
 returns c =
-    via _ (c .before .before .before .before .«open» .ensures) (
-    via _ (c .before .before .before .agree .ensures) (
+    via _ (c .before .before .before .block-head .ensures) (
     via _ (c .before .before .skip-each .ensures) (
     via _ (c .before .close .ensures) (
-    c .settle .ensures .0))))
+    c .settle .ensures .0)))
 
 pub block-spec : {M : Type 1} → statement M
-block-spec = tie.close (tie.spec (λ c κs. search needs) free (λ c κs. search needs) free free returns)
+block-spec = tie.close (tie.spec free (λ c κs. search needs) free free returns)

@@ -9,12 +9,12 @@ use Rattle.aipsio.proofs.objects.iposition.Tie as tie
 returns : tie.Need-returns
 unfolding ipositionAt
 returns c =
-    via _ (c .before .before .before .before .before .«open» .ensures) (
-    via _ (c .before .before .before .before .uint .ensures .0) (
-    via _ (c .before .before .before .axis-width .ensures) (
+    via _ (c .before .before .before .before .before .before .«open» .ensures) (
+    via _ (c .before .before .before .before .before .uint .ensures .0) (
+    via _ (c .before .before .before .of-int .ensures) (
     via _ (c .before .before .bytes .ensures .0) (
     via _ (c .before .skip-each .ensures) (
     c .close .ensures)))))
 
 pub iposition-spec : {M : Type 1} → statement M
-iposition-spec = tie.close (tie.spec (λ c κs. search needs) free free free (λ c κs. bytes-some (c .before .axis-width .result) (c .bytes .ensures .0)) free returns)
+iposition-spec = tie.close (tie.spec (λ c κs. search needs) free free free (λ c κs. bytes-some (c .before .of-int .result) (c .bytes .ensures .0)) free returns)

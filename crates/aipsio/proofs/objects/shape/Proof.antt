@@ -11,10 +11,10 @@ returns : tie.Need-returns
 unfolding shapeAt
 returns c =
     at-most (shape-le _ _ _) (
-    via _ (c .before .before .before .before .before .before .before .«open» .ensures) (
-    via _ (c .before .before .before .before .before .before .number .ensures .0) (
-    via _ (c .before .before .before .before .judge .ensures) (
-    via _ (c .before .before .before .axis-width .ensures) (
+    via _ (c .before .before .before .before .before .before .before .before .«open» .ensures) (
+    via _ (c .before .before .before .before .before .before .before .number .ensures .0) (
+    via _ (c .before .before .before .before .before .judge .ensures) (
+    via _ (c .before .before .before .of-int .ensures) (
     via _ (c .before .before .axes .ensures .0) (
     via _ (c .before .close .ensures) (
     c .settle .ensures .0)))))))

@@ -28,30 +28,30 @@ abbrev μ-loop : tie.MeasureT-loop
 returns : tie.Need-returns Inv-loop μ-loop
 unfolding searchOf
 returns c = (
-  bucket-stop _ _ _ _ _ _ _ _ _ (c .before .before .before .before .before .before .before .before .before .before .word .ensures .0) (c .before .before .before .before .before .before .before .before .word2 .ensures .0) (c .before .before .before .before .before .before .word3 .ensures .0) refl (c .before .before .before .before .before .minus .ensures) (c .before .before .before .before .minus2 .ensures) (c .before .before .read-bucket .ensures .0)
-      _ (c .before .before .before .before .before .before .before .before .before .before .before .before .before .loop .inv .1) (omega arith) (c .before .if1 .taken) (c .refusal .ensures),
+  bucket-stop _ _ _ _ _ _ _ _ _ (c .before .before .before .before .before .before .before .before .word .ensures .0) (c .before .before .before .before .before .before .before .first-row .ensures) (c .before .before .before .before .before .before .first-row2 .ensures) refl (c .before .before .before .before .before .minus .ensures) (c .before .before .before .before .minus2 .ensures) (c .before .before .read-bucket .ensures .0)
+      _ (c .before .before .before .before .before .before .before .before .before .before .before .loop .inv .1) (omega arith) (c .before .if1 .taken) (c .refusal .ensures),
   (omega arith, omega arith),
 )
 
 read-bucket-requires : tie.Need-read-bucket-requires Inv-loop μ-loop
 read-bucket-requires c κs =
-    let p = c .before .before .before .before .before .before .before .before .before .before .before .before .before .pre in
-    (p .0 .1, rw (c .before .before .before .before .before .before .before .word .ensures .0) (p .1 .1 (c .before .before .before .before .before .before .before .before .before .before .loop .i) (omega arith)))
+    let p = c .before .before .before .before .before .before .before .before .before .before .before .pre in
+    (p .0 .1, rw (c .before .before .before .before .before .word .ensures .0) (p .1 .1 (c .before .before .before .before .before .before .before .before .loop .i) (omega arith)))
 
 mul-at : tie.Need-mul-at Inv-loop μ-loop
-mul-at c = omega (arith, start-most (c .before .before .before .before .before .before .before .before .before .before .pre .0 .0) (c .before .before .before .before .word .ensures .1))
+mul-at c = omega (arith, start-most (c .before .before .before .before .before .before .before .before .pre .0 .0) (c .before .before .word .ensures .1))
 
 add-at : tie.Need-add-at Inv-loop μ-loop
-add-at c = omega (arith, start-most (c .before .before .before .before .before .before .before .before .before .before .pre .0 .0) (c .before .before .before .before .word .ensures .1))
+add-at c = omega (arith, start-most (c .before .before .before .before .before .before .before .before .pre .0 .0) (c .before .before .word .ensures .1))
 
 loop-again : tie.Need-loop-again Inv-loop μ-loop
 loop-again c = (
   omega arith,
-  after-more _ _ _ (c .before .before .before .before .before .before .before .before .before .before .before .before .before .before .loop .inv .1)
-      (bucket-on _ _ _ _ _ _ _ _ _ (c .before .before .before .before .before .before .before .before .before .before .before .word .ensures .0) (c .before .before .before .before .before .before .before .before .before .word2 .ensures .0) (c .before .before .before .before .before .before .before .word3 .ensures .0) refl (c .before .before .before .before .before .before .minus .ensures) (c .before .before .before .before .before .minus2 .ensures) (c .before .before .before .read-bucket .ensures .0)
+  after-more _ _ _ (c .before .before .before .before .before .before .before .before .before .before .before .before .loop .inv .1)
+      (bucket-on _ _ _ _ _ _ _ _ _ (c .before .before .before .before .before .before .before .before .before .word .ensures .0) (c .before .before .before .before .before .before .before .before .first-row .ensures) (c .before .before .before .before .before .before .before .first-row2 .ensures) refl (c .before .before .before .before .before .before .minus .ensures) (c .before .before .before .before .before .minus2 .ensures) (c .before .before .before .read-bucket .ensures .0)
       (c .before .before .if1 .left) (c .before .choose .ensures) (c .choose2 .ensures)),
-  cond-le (leb (c .before .before .before .before .before .before .before .before .before .word2 .result) (c .before .before .before .before .before .before .before .before .before .before .before .before .before .before .before .before .before .args .row)) (omega (arith, start-most (c .before .before .before .before .before .before .before .before .before .before .before .before .before .before .before .before .before .pre .0 .0) (c .before .before .before .before .before .before .before .before .before .before .before .word .ensures .1))) (c .before .before .before .before .before .before .before .before .before .before .before .before .before .before .loop .inv .2) (c .before .choose .ensures),
-  cond-le (leb (c .before .before .before .before .before .before .before .before .before .word2 .result) (c .before .before .before .before .before .before .before .before .before .before .before .before .before .before .before .before .before .args .row)) (omega (arith, c .before .before .before .read-bucket .ensures .1, c .before .before .before .before .before .before .before .before .before .before .before .before .before .before .before .before .before .pre .0 .0)) (c .before .before .before .before .before .before .before .before .before .before .before .before .before .before .loop .inv .3) (c .choose2 .ensures),
+  cond-le (leb (c .before .before .before .before .before .before .before .before .first-row .result) (c .before .before .before .before .before .before .before .before .before .before .before .before .before .before .before .args .row)) (omega (arith, start-most (c .before .before .before .before .before .before .before .before .before .before .before .before .before .before .before .pre .0 .0) (c .before .before .before .before .before .before .before .before .before .word .ensures .1))) (c .before .before .before .before .before .before .before .before .before .before .before .before .loop .inv .2) (c .before .choose .ensures),
+  cond-le (leb (c .before .before .before .before .before .before .before .before .first-row .result) (c .before .before .before .before .before .before .before .before .before .before .before .before .before .before .before .args .row)) (omega (arith, c .before .before .before .read-bucket .ensures .1, c .before .before .before .before .before .before .before .before .before .before .before .before .before .before .before .pre .0 .0)) (c .before .before .before .before .before .before .before .before .before .before .before .before .loop .inv .3) (c .choose2 .ensures),
 )
 
 returns-2 : tie.Need-returns-2 Inv-loop μ-loop
@@ -68,13 +68,9 @@ find-cell-spec =
     (λ c. search needs)
     (λ c. search needs)
     free
+    (λ c κs. (c .before .before .before .before .before .before .pre .1 .0, omega arith))
     (λ c. search needs)
-    (λ c. search needs)
-    free
-    (λ c. search needs)
-    (λ c. search needs)
-    (λ c. search needs)
-    free
+    (λ c κs. (c .before .before .before .before .before .before .before .pre .1 .0, omega arith))
     mul-at
     add-at
     free

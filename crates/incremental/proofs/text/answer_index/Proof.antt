@@ -5,4 +5,4 @@ use Rattle.incremental.proofs.text.answer_index.Statement.{statement}
 use Rattle.incremental.proofs.text.answer_index.Tie as tie
 
 pub answer-index-spec : {M : Type 1} → statement M
-answer-index-spec = tie.close (tie.spec free (λ c. indexed-off _ _ _ _ (c .before .if1 .taken) (c .refusal .ensures)) (λ c. indexed-on _ _ _ _ (c .if1 .left)))
+answer-index-spec = tie.close (tie.spec free (λ c. indexed-off _ _ _ _ _ (c .before .if1 .taken) (c .refusal .ensures)) (λ c. indexed-on _ _ _ _ _ (c .if1 .left)))

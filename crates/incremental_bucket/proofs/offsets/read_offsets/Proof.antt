@@ -32,16 +32,16 @@ loop-holds : tie.Need-loop-holds Inv-loop μ-loop
 loop-holds c = (omega arith, omega arith, after-none _ _)
 
 word-there-requires : tie.Need-word-there-requires Inv-loop μ-loop
-word-there-requires c κs = omega (arith, room-at _ _ _ (c .before .before .before .left .ensures) (c .before .loop .inv .1) (c .before .before .least .ensures .1 .1) (omega arith))
+word-there-requires c κs = omega (arith, room-at 4 (omega arith) refl _ _ _ (c .before .before .before .left .ensures) (c .before .loop .inv .1) (c .before .before .least .ensures .1 .1) (omega arith))
 
 add-at : tie.Need-add-at Inv-loop μ-loop
-add-at c = omega (arith, room-at _ _ _ (c .before .before .before .before .before .before .before .left .ensures) (c .before .before .before .before .before .loop .inv .1) (c .before .before .before .before .before .before .least .ensures .1 .1) (omega arith))
+add-at c = omega (arith, room-at 4 (omega arith) refl _ _ _ (c .before .before .before .before .before .before .before .left .ensures) (c .before .before .before .before .before .loop .inv .1) (c .before .before .before .before .before .before .least .ensures .1 .1) (omega arith))
 
 returns-2 : tie.Need-returns-2 Inv-loop μ-loop
 returns-2 c = (
   offsets-stop _ _ _ _ _ _ (c .before .before .before .before .before .before .before .if1 .left) _ (c .before .before .before .before .loop .inv .2) (omega arith) (λ z. omega arith)
-      (offset-wrong _ _ _ _ _ _ refl refl (omega (arith, room-at _ _ _ (c .before .before .before .before .before .before .left .ensures) (c .before .before .before .before .loop .inv .1) (c .before .before .before .before .before .least .ensures .1 .1) (omega arith)))
-      (c .before .before .word-there .ensures) (c .before .lies-within .ensures) (not-true _ (c .if2 .taken))),
+      (offset-wrong _ _ _ _ _ _ refl refl (omega (arith, room-at 4 (omega arith) refl _ _ _ (c .before .before .before .before .before .before .left .ensures) (c .before .before .before .before .loop .inv .1) (c .before .before .before .before .before .least .ensures .1 .1) (omega arith)))
+      (c .before .before .word-there .ensures .0) (c .before .lies-within .ensures) (not-true _ (c .if2 .taken))),
   refl,
 )
 
@@ -50,14 +50,14 @@ loop-again c = (
   omega arith,
   omega (arith, c .before .before .before .before .before .loop .inv .1),
   after-more _ _ _ (c .before .before .before .before .before .loop .inv .2)
-      (offset-on _ _ _ _ _ _ refl refl (omega (arith, room-at _ _ _ (c .before .before .before .before .before .before .before .left .ensures) (c .before .before .before .before .before .loop .inv .1) (c .before .before .before .before .before .before .least .ensures .1 .1) (omega arith)))
-      (c .before .before .before .word-there .ensures) (c .before .before .lies-within .ensures) (not-false _ (c .before .if2 .left)) (c .choose .ensures)),
+      (offset-on _ _ _ _ _ _ refl refl (omega (arith, room-at 4 (omega arith) refl _ _ _ (c .before .before .before .before .before .before .before .left .ensures) (c .before .before .before .before .before .loop .inv .1) (c .before .before .before .before .before .before .least .ensures .1 .1) (omega arith)))
+      (c .before .before .before .word-there .ensures .0) (c .before .before .lies-within .ensures) (not-false _ (c .before .if2 .left)) (c .choose .ensures)),
 )
 
 returns-3 : tie.Need-returns-3 Inv-loop μ-loop
 returns-3 c = (
   offsets-stop _ _ _ _ _ _ (c .before .before .before .before .before .if1 .left) _ (c .before .before .loop .inv .2) (omega arith) (λ z. omega arith)
-      (offset-short _ _ _ _ _ _ refl refl (no-room-at _ _ _ (c .before .before .before .before .left .ensures) (c .before .before .loop .inv .1) (let e = c .before .before .before .least .ensures .1 .2 (c .if3 .taken) in omega arith))),
+      (offset-short _ _ _ _ _ _ refl refl (no-room-at 4 (omega arith) refl _ _ _ (c .before .before .before .before .left .ensures) (c .before .before .loop .inv .1) (let e = c .before .before .before .least .ensures .1 .2 (c .if3 .taken) in omega arith))),
   refl,
 )
 

@@ -7,7 +7,7 @@ use Rattle.lookup.proofs.answer.find_cell.Tie as tie
 locate-requires : tie.Need-locate-requires
 locate-requires c κs =
     let h = can-find _ _ (c .before .before .before .before .before .before .before .args .r) (c .before .before .before .before .if1 .left) (c .before .before .before .if2 .taken) (c .before .before .if3 .left) (c .before .before .before .before .before .before .before .pre) in
-    (h .inside, (h .size-most, h .offset-most, h .bits-most, h .row-most))
+    (h .inside, ((h .size-most, h .offset-most, h .bits-most), λ n. h .local-below))
 
 pub find-cell-spec : {M : Type 1} → statement M
 find-cell-spec =

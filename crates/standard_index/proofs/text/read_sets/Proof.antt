@@ -12,11 +12,11 @@ use Rattle.standard_index.proofs.text.read_sets.Statement.{statement}
 use Rattle.standard_index.proofs.text.read_sets.Tie as tie
 
 abbrev Inv-loop : tie.InvT-loop
-Inv-loop s width n sets₀ next₀ i₀ sets next i =
-    (i ≤ n) × (_≡_ {A = Sets} (record { sets = sets; next = next }) (after (setInto s width) (record { sets = sets₀; next = next₀ }) i))
+Inv-loop s n sets₀ next₀ i₀ sets next i =
+    (i ≤ n) × (_≡_ {A = Sets} (record { sets = sets; next = next }) (after (setInto s) (record { sets = sets₀; next = next₀ }) i))
 
 abbrev μ-loop : tie.MeasureT-loop
-μ-loop s width n sets₀ next₀ i₀ sets next i = n - i
+μ-loop s n sets₀ next₀ i₀ sets next i = n - i
 
 loop-again : tie.Need-loop-again Inv-loop μ-loop
 unfolding setInto

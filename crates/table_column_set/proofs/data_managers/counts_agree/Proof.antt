@@ -1,0 +1,7 @@
+-- `table_column_set::data_managers::counts_agree` meets its contract: its branches are the definition's cases.
+use borrow.Author.Tests.{eq-eqb, ne-eqb}
+use Rattle.table_column_set.proofs.data_managers.counts_agree.Statement.{statement}
+use Rattle.table_column_set.proofs.data_managers.counts_agree.Tie as tie
+
+pub counts-agree-spec : {M : Type 1} → statement M
+counts-agree-spec = tie.close (tie.spec (λ c. simp (c .if1 .taken)) (λ c. simp (c .if1 .left)))
