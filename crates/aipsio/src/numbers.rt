@@ -2,7 +2,7 @@
 ghost use mathlib.Core.Path.{_≡_};
 ghost use Prim.Native.Nat.{_<_, _≤_};
 ghost use Rattle.bytes_at.specs.Number.{bytesOf};
-ghost use Rattle.aipsio_rules.specs.Field.{sizedAt, uintAt, rangedAt, numberAt, rowAt, versionAt, codeAt, agreed, markAt, flagAt};
+ghost use Rattle.aipsio_rules.specs.Field.{sizedAt, uintAt, rangedAt, numberAt, versionAt, codeAt, agreed, markAt, flagAt};
 use aipsio_rules::Cursor;
 use aipsio_rules::Value;
 use bytes_at::Width;
@@ -64,13 +64,6 @@ pub fn number(s: &[u8], c: Cursor, width: Width, low: usize, high: usize) -> Val
     ensures bounded { λ r. ⌜ r .value ≤ high ⌝ }
 {
     ranged(s, c, width, low, high, 4)
-}
-
-// A row number; a negative one is 4.
-pub fn row(s: &[u8], c: Cursor, width: Width) -> Value
-    ensures { λ r. ⌜ r ≡ rowAt (now (s .entry)) c (bytesOf width) ⌝ }
-{
-    ranged(s, c, width, 0, 9223372036854775807, 4)
 }
 
 // A version of a range, else 3.

@@ -127,33 +127,49 @@ fn block_head(s: &[u8], c: Cursor, n: usize) -> Cursor
     crate::numbers::agree(s, o.next, n)
 }
 
-// A Block of n elements of `size` bytes each: where they start, and the cursor past it.
-pub fn block(s: &[u8], c: Cursor, n: usize, size: usize) -> Value
-    requires { ⌜ 0 < size ⌝ }
-    ensures { λ r. ⌜ r ≡ blockAt (now (s .entry)) c n size ⌝ }
+// A Block of n uInts: where they start, and the cursor past it.
+pub fn block(s: &[u8], c: Cursor, n: usize) -> Value
+    ensures { λ r. ⌜ r ≡ blockAt (now (s .entry)) c n ⌝ }
 {
     let k = block_head(s, c, n);
-    let e = crate::skip_each(k, n, size);
+    let e = crate::skip_each(k, n, 4);
     let d = close(e, c);
     crate::settle(k.at, d)
 }
 
-// Past n row numbers, up to the first that is refused, whatever n is.
+// Past n row numbers, up to the first that is refused: 4 where it is negative. No more are looked at than there is room for,
+// whatever n is.
 fn rows(s: &[u8], c: Cursor, n: usize, width: Width) -> Cursor
     ensures { λ r. ⌜ r ≡ rowsAt (now (s .entry)) c n (bytesOf width) ⌝ }
 {
-    let mut next = c;
+    let end = c.end;
+    let big = c.big;
+    let refused = c.refused;
+    if refused != 0 {
+        return c;
+    }
+    let size = width.bytes();
+    let room = crate::left(c) / size;
+    let m = bytes_at::least(n, room);
+    let mut at = c.at;
     let mut i = 0;
-    while i < n {
-        let row = crate::numbers::row(s, next, width);
-        next = row.next;
-        let refused = next.refused;
-        if refused != 0 {
-            return next;
+    while i < m {
+        let v = bytes_at::number(s, at, big, width);
+        if 9223372036854775807 < v {
+            return crate::refuse(c, at, 4);
         }
+        at += size;
         i += 1;
     }
-    next
+    if m < n {
+        return crate::refuse(c, at, 1);
+    }
+    Cursor {
+        at: at,
+        end: end,
+        big: big,
+        refused: 0,
+    }
 }
 
 // A Block of n row numbers: where they start, and the cursor past it.

@@ -10,3 +10,4 @@ pub mod ObjectSides
 pub mod ObjectAccepted
 pub mod ObjectBounds
 pub mod ObjectEnds
+pub mod Rows

@@ -43,7 +43,7 @@ module _ (c outer : Cursor) where
   pub closed-is : Clean (closed c outer) → closed c outer ≡ record { at = c .at; end = outer .end; big = c .big; refused = 0 }
   closed-is e = let f = closed-full e in sym (close-on c (f .0) outer (f .1))
 
-cursor-same : (c : Cursor) {at : ℕ} → c .at ≡ at → Clean c → c ≡ movedTo c at
+pub cursor-same : (c : Cursor) {at : ℕ} → c .at ≡ at → Clean c → c ≡ movedTo c at
 cursor-same c p e = rw (← p, ← e)
 
 -- an object, whose fields begin at o, in its container c
@@ -75,14 +75,14 @@ head-within s c n e =
     omega (arith, i .within)
 
 -- and its elements lie in it
-pub block-inside : (s : List ℕ) (c : Cursor) (n size : ℕ) → Clean (blockAt s c n size .next) → blockAt s c n size .value + n * size ≤ c .end
+pub block-inside : (s : List ℕ) (c : Cursor) (n : ℕ) → Clean (blockAt s c n .next) → blockAt s c n .value + n * 4 ≤ c .end
 unfolding blockAt settled _>>=_
-block-inside s c n size e =
+block-inside s c n e =
     let k = blockHeadAt s c n in
-    let d = skippedEach k n size in
+    let d = skippedEach k n 4 in
     let f = closed-full d c e in
-    let g = each-fits k n size (f .0) in
-    let p : k .at + n * size ≡ k .end = rw (each-is k n size (f .0)) at (f .1) in
+    let g = each-fits k n 4 (f .0) in
+    let p : k .at + n * 4 ≡ k .end = rw (each-is k n 4 (f .0)) at (f .1) in
     rw (eq-eqb (closed d c .refused) 0 e) (omega (arith, head-within s c n (g .0)))
 
 row-is : (s : List ℕ) (c : Cursor) (width : ℕ) → Clean (rowAt s c width .next) → rowAt s c width .next ≡ movedTo c (c .at + width)

@@ -26,12 +26,12 @@ module _ (s : List ℕ) (c : Cursor) where
   pub map-stays : Stays c (mapAt s c)
   map-stays = record { keeps = map-keeps s c; ends = map-ends }
 
-  block-ends : (n size : ℕ) → Clean (blockAt s c n size .next) → blockAt s c n size .next .end ≤ c .end
+  block-ends : (n : ℕ) → Clean (blockAt s c n .next) → blockAt s c n .next .end ≤ c .end
   unfolding blockAt settled _>>=_
-  block-ends n size h = end-of (closed-is _ c h)
+  block-ends n h = end-of (closed-is _ c h)
 
-  pub block-stays : (n size : ℕ) → Stays c (blockAt s c n size .next)
-  block-stays n size = record { keeps = block-reads s c n size .keeps; ends = block-ends n size }
+  pub block-stays : (n : ℕ) → Stays c (blockAt s c n .next)
+  block-stays n = record { keeps = block-reads s c n .keeps; ends = block-ends n }
 
   row-block-ends : (n width : ℕ) → Clean (rowBlockAt s c n width .next) → rowBlockAt s c n width .next .end ≤ c .end
   unfolding rowBlockAt settled _>>=_

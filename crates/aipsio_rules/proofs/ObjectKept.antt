@@ -1,14 +1,12 @@
 -- A refused cursor stays as it is through every object.
 -- Assumes nothing.
 use mathlib.Core.List.{List}
-use mathlib.Core.Path.{_≡_, ap}
-use Prim.Native.Nat.{ℕ, _+_, _≤_}
+use Prim.Native.Nat.{ℕ}
 use Rattle.bytes_at.specs.Steps.{_>>=_}
-use Rattle.bytes_at.proofs.Loops.{after-none, after-more, after-all, after-stop}
-use Rattle.aipsio_rules.specs.Field.{mostInt64, rowAt}
+use Rattle.aipsio_rules.specs.Field.{mostInt64}
 use Rattle.aipsio_rules.specs.declared.Cursor.{Cursor}
 use Rattle.aipsio_rules.specs.declared.Value.{Value}
-use Rattle.aipsio_rules.proofs.Kept.{Refused, Keeps, Reads, after-keeps, latched-keeps, each-keeps, judged-keeps, settled-reads, uint-reads, ranged-reads, agreed-keeps, name-keeps, _⨟_}
+use Rattle.aipsio_rules.proofs.Kept.{Keeps, Reads, after-keeps, latched-keeps, each-keeps, judged-keeps, settled-reads, uint-reads, ranged-reads, agreed-keeps, name-keeps, _⨟_}
 use Rattle.aipsio_rules.specs.Object.{entered, opened, closed, passed, recordAt, blockHeadAt, blockAt, rowsAt, rowBlockAt, mapAt, ipositionAt, axisInto, axesAt, shapeAt}
 
 pub entered-keeps : (c outer : Cursor) (len : ℕ) → Keeps c (entered c outer len)
@@ -36,31 +34,13 @@ pub block-head-keeps : (s : List ℕ) (c : Cursor) (n : ℕ) → Keeps c (blockH
 unfolding blockHeadAt _>>=_
 block-head-keeps s c n = opened-reads s c _ 1 1 .keeps ⨟ agreed-keeps s _ n
 
-pub block-reads : (s : List ℕ) (c : Cursor) (n size : ℕ) → Reads c (blockAt s c n size)
+pub block-reads : (s : List ℕ) (c : Cursor) (n : ℕ) → Reads c (blockAt s c n)
 unfolding blockAt _>>=_
-block-reads s c n size = settled-reads _ (block-head-keeps s c n ⨟ each-keeps _ n size ⨟ closed-keeps _ c)
+block-reads s c n = settled-reads _ (block-head-keeps s c n ⨟ each-keeps _ n 4 ⨟ closed-keeps _ c)
 
 pub rows-keeps : (s : List ℕ) (c : Cursor) (n width : ℕ) → Keeps c (rowsAt s c n width)
 unfolding rowsAt
 rows-keeps s c n width = after-keeps _ (λ (d : Cursor). d) (λ d i. ranged-reads s d width 0 mostInt64 4 .keeps) c n
-
--- the loop over them: at the start, after a turn, at the end, and after a refusal, which no turn changes
-module _ (s : List ℕ) (c : Cursor) (width : ℕ) where
-  pub rows-none : c ≡ rowsAt s c 0 width
-  unfolding rowsAt
-  rows-none = after-none _ c
-
-  pub rows-more : (i : ℕ) {d : Cursor} {row : Value} → d ≡ rowsAt s c i width → row ≡ rowAt s d width → row .next ≡ rowsAt s c (i + 1) width
-  unfolding rowsAt
-  rows-more i p q = after-more _ c i p (ap (λ (v : Value). v .next) q)
-
-  pub rows-all : (i n : ℕ) {d : Cursor} → d ≡ rowsAt s c i width → i ≤ n → n ≤ i → d ≡ rowsAt s c n width
-  unfolding rowsAt
-  rows-all i n p a b = after-all _ c i n p a b
-
-  pub rows-stop : (i n : ℕ) {d : Cursor} → d ≡ rowsAt s c i width → i ≤ n → Refused d → d ≡ rowsAt s c n width
-  unfolding rowsAt
-  rows-stop i n {d} p a h = after-stop _ c i n p a (λ j. ranged-reads s d width 0 mostInt64 4 .keeps .stays h)
 
 pub row-block-reads : (s : List ℕ) (c : Cursor) (n width : ℕ) → Reads c (rowBlockAt s c n width)
 unfolding rowBlockAt _>>=_

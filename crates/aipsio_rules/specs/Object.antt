@@ -55,11 +55,11 @@ blockHeadAt s c n = do
   o ← opened s c (bytes "Block") 1 1
   agreed s (o .next) n
 
--- a Block of n elements of `size` bytes. Gives where they start.
-unfoldable pub blockAt : List ℕ → Cursor → ℕ → ℕ → Value
-blockAt s c n size = do
+-- a Block of n uInts. Gives where they start.
+unfoldable pub blockAt : List ℕ → Cursor → ℕ → Value
+blockAt s c n = do
   k ← blockHeadAt s c n
-  e ← skippedEach k n size
+  e ← skippedEach k n 4
   d ← closed e c
   settled (k .at) d
 
@@ -67,7 +67,7 @@ blockAt s c n size = do
 unfoldable pub rowsAt : List ℕ → Cursor → ℕ → ℕ → Cursor
 rowsAt s c n width = after (λ (d : Cursor) (i : ℕ). rowAt s d width .next) c n
 
--- a Block of n row numbers. Gives where they start.
+-- a Block of n row numbers, uInts or Int64s, which are looked at one by one. Gives where they start.
 unfoldable pub rowBlockAt : List ℕ → Cursor → ℕ → ℕ → Value
 rowBlockAt s c n width = do
   k ← blockHeadAt s c n

@@ -14,3 +14,4 @@ pub mod Tests
 pub mod MoreTests
 pub mod Apart
 pub mod Listed
+pub mod Room

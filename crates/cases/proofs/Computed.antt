@@ -19,7 +19,7 @@ use Rattle.standard_rules.specs.Check.{padded, refusalWith, checkedWith}
 use Rattle.lookup_rules.specs.Questions.{kindWith, targetOf, fileOf, planFor, samePlan, stagesAfter, stagesOf, placeIn, answered, answerFor, roomFor}
 use Rattle.lookup_rules.specs.Demand.{inStandard}
 use Rattle.cases.specs.SmallFile.{tableDat}
-use Rattle.cases.specs.Cases.{casesOf, cases, littleCases, Right, LittleRight}
+use Rattle.cases.specs.Cases.{casesOf, cases, littleCases, wideCases, Right, LittleRight, WideRight}
 
 pub right : Right
 unfolding bigFrom littleFrom uintOf sameBytes firstFrom after _>>=_ _▷_ orAt skipped skippedEach judged settled sizedAt uintAt rangedAt agreed markAt textBefore textAt containerOf stringAt nameAt entered opened closed passed recordAt blockHeadAt blockAt rowsAt rowBlockAt mapAt ipositionAt axisInto axesAt shapeAt typePlace elementBits withName columnTypeOf cellBits columnTypeAt columnHeadAt notesAt optionsAt dimensionsAt elementsAt layoutAt defaultAt tailAt columnRestAt noColumn isNamed firstNamed columnInto columnsAt kindOf columnSetHeadAt firstNumber noManager managerInto managersAt sequenceAt ownShapeAt noOwner ownerInto ownersAt listsIn ssmAt ismAt afterObject infoAt infoInto infosAt noBinding bindingOf bindingAt bindingsAt tableHeadAt tableDescHeadAt refusedTable describedAs links chainOk chainText chainHolds offsetOk indexOk indexText freeOk all allFrom pairs allApart entryOf covers boundTo dataOf fits inBucket clear numbersAt bucketFieldsAt indexFieldsAt headed headerAt ssmIndexAt setInto setsAt indexed indexAt indexTextOf setsFrom columnsFrom mapWith refusalWith checkedWith kindWith targetOf fileOf placeIn planFor samePlan stagesOf answered answerFor roomFor stagesAfter padded casesOf cases
@@ -28,6 +28,10 @@ right = refl
 pub little-right : LittleRight
 unfolding bigFrom littleFrom uintOf sameBytes firstFrom after _>>=_ _▷_ orAt skipped skippedEach judged settled sizedAt uintAt rangedAt agreed markAt textBefore textAt containerOf stringAt nameAt entered opened closed passed recordAt blockHeadAt blockAt rowsAt rowBlockAt mapAt ipositionAt axisInto axesAt shapeAt typePlace elementBits withName columnTypeOf cellBits columnTypeAt columnHeadAt notesAt optionsAt dimensionsAt elementsAt layoutAt defaultAt tailAt columnRestAt noColumn isNamed firstNamed columnInto columnsAt kindOf columnSetHeadAt firstNumber noManager managerInto managersAt sequenceAt ownShapeAt noOwner ownerInto ownersAt listsIn ssmAt ismAt afterObject infoAt infoInto infosAt noBinding bindingOf bindingAt bindingsAt tableHeadAt tableDescHeadAt refusedTable describedAs links chainOk chainText chainHolds offsetOk indexOk indexText freeOk all allFrom pairs allApart entryOf covers boundTo dataOf fits inBucket clear numbersAt bucketFieldsAt indexFieldsAt headed headerAt ssmIndexAt setInto setsAt indexed indexAt indexTextOf setsFrom columnsFrom mapWith refusalWith checkedWith kindWith targetOf fileOf placeIn planFor samePlan stagesOf answered answerFor roomFor stagesAfter padded casesOf littleCases
 little-right = refl
+
+pub wide-right : WideRight
+unfolding bigFrom littleFrom uintOf sameBytes firstFrom after _>>=_ _▷_ orAt skipped skippedEach judged settled sizedAt uintAt rangedAt agreed markAt textBefore textAt containerOf stringAt nameAt entered opened closed passed recordAt blockHeadAt blockAt rowsAt rowBlockAt mapAt ipositionAt axisInto axesAt shapeAt typePlace elementBits withName columnTypeOf cellBits columnTypeAt columnHeadAt notesAt optionsAt dimensionsAt elementsAt layoutAt defaultAt tailAt columnRestAt noColumn isNamed firstNamed columnInto columnsAt kindOf columnSetHeadAt firstNumber noManager managerInto managersAt sequenceAt ownShapeAt noOwner ownerInto ownersAt listsIn ssmAt ismAt afterObject infoAt infoInto infosAt noBinding bindingOf bindingAt bindingsAt tableHeadAt tableDescHeadAt refusedTable describedAs links chainOk chainText chainHolds offsetOk indexOk indexText freeOk all allFrom pairs allApart entryOf covers boundTo dataOf fits inBucket clear numbersAt bucketFieldsAt indexFieldsAt headed headerAt ssmIndexAt setInto setsAt indexed indexAt indexTextOf setsFrom columnsFrom mapWith refusalWith checkedWith kindWith targetOf fileOf placeIn planFor samePlan stagesOf answered answerFor roomFor stagesAfter padded casesOf wideCases
+wide-right = refl
 
 -- the small table's manager is a StandardStMan
 pub small-standard : inStandard tableDat 0

@@ -1,6 +1,6 @@
--- RULES.md 11.2: the small file's cases A to L, as one list, and those of the little endian one. Each is asked of the bytes of both
--- files with the definitions that answer the questions, and with an index room of 140 bytes, more than any of the index texts takes
--- (134 and 126 bytes).
+-- RULES.md 11.2: the small file's cases A to L, as one list, and those of the little endian one and of the one with rows of 64 bits.
+-- Each is asked of the bytes of both files with the definitions that answer the questions, and with an index room of 150 bytes, more
+-- than any of the index texts takes (134, 142 and 126 bytes).
 use mathlib.Core.Path.{_≡_}
 use mathlib.Core.Bool.{Bool, true, false, _&&_}
 use mathlib.Core.List.{List, [], _∷_, _++_}
@@ -16,7 +16,7 @@ use Rattle.lookup_rules.specs.declared.Asked.the-variants.{Position}
 use Rattle.lookup_rules.specs.declared.Question.{Question}
 use Rattle.lookup_rules.specs.declared.Question.the-variants.{Check, Place, View}
 use Rattle.lookup_rules.specs.Questions.{noPlan, samePlan, answerOf, roomAfter}
-use Rattle.cases.specs.SmallFile.{tableDat, f0, littleDat, littleF0, boolsDat, boolsF0}
+use Rattle.cases.specs.SmallFile.{tableDat, f0, littleDat, littleF0, wideDat, wideF0, boolsDat, boolsF0}
 
 -- positions of the columns
 abbrev SCAN : ℕ
@@ -29,7 +29,7 @@ abbrev TIME : ℕ
 TIME = 2
 
 abbrev roomLength : ℕ
-roomLength = 140
+roomLength = 150
 
 abbrev cellIn : ℕ → ℕ → Question
 cellIn row c = Place row (Position c)
@@ -42,39 +42,44 @@ textIn f n = take n (take 56 (drop 584 f) ++ take 56 (drop 712 f) ++ take 56 (dr
 abbrev gives : List ℕ → List ℕ → ℕ → Question → ℕ → ℕ → Bool
 gives t f n q first count =
     let a = answerOf t f q roomLength in
-    let left = textIn f n ++ replicate 140 0 in
-    eqb (a .refused .number) 0 && eqb (a .first) first && eqb (a .count) count && sameBytes (roomAfter t f q roomLength) (take 140 left)
+    let left = textIn f n ++ replicate 150 0 in
+    eqb (a .refused .number) 0 && eqb (a .first) first && eqb (a .count) count && sameBytes (roomAfter t f q roomLength) (take 150 left)
 
 -- it is refused with a number, above 7, and zeros, and the room is all zero
 abbrev refuses : List ℕ → List ℕ → Question → ℕ → Bool
 refuses t f q n =
     let a = answerOf t f q roomLength in
     eqb (a .refused .number) n && eqb (a .refused .byte) 0 && samePlan (a .plan) noPlan && eqb (a .first) 0 && eqb (a .count) 0 && eqb (a .looks) 0 && eqb (a .entries) 0
-    && sameBytes (roomAfter t f q roomLength) (replicate 140 0)
+    && sameBytes (roomAfter t f q roomLength) (replicate 150 0)
 
--- The small file in either byte order: table.dat and table.f0, and where the low bytes stand of TIME's offset, of the second last
--- row and of the number of index buckets.
+-- The small file in one of its forms: table.dat and table.f0, the length of its index text, and where the low bytes stand of TIME's
+-- offset, of ColumnSet's row count, of the second last row and of the number of index buckets.
 pub record SmallTable : Type 0 where
   pub big : Bool
   pub table : List ℕ
   pub file : List ℕ
+  pub text : ℕ
   pub offsetAt : ℕ
+  pub rowsAt : ℕ
   pub lastAt : ℕ
   pub bucketsAt : ℕ
 
 abbrev inBig : SmallTable
-inBig = record { big = true; table = tableDat; file = f0; offsetAt = 933; lastAt = 760; bucketsAt = 53 }
+inBig = record { big = true; table = tableDat; file = f0; text = 134; offsetAt = 933; rowsAt = 816; lastAt = 760; bucketsAt = 53 }
 
 abbrev inLittle : SmallTable
-inLittle = record { big = false; table = littleDat; file = littleF0; offsetAt = 978; lastAt = 757; bucketsAt = 50 }
+inLittle = record { big = false; table = littleDat; file = littleF0; text = 134; offsetAt = 978; rowsAt = 816; lastAt = 757; bucketsAt = 50 }
+
+abbrev inWide : SmallTable
+inWide = record { big = true; table = wideDat; file = wideF0; text = 142; offsetAt = 937; rowsAt = 820; lastAt = 776; bucketsAt = 53 }
 
 -- table.dat with another offset of TIME
 abbrev timeAt : SmallTable → ℕ → List ℕ
 timeAt s offset = set (s .table) (s .offsetAt) offset
 
--- table.dat with another row count: byte 24, in the Table header, and byte 816, in the ColumnSet
+-- table.dat with another row count: byte 24, in the Table header, and in the ColumnSet
 abbrev withRows : SmallTable → ℕ → List ℕ
-withRows s rows = set (set (s .table) 24 rows) 816 rows
+withRows s rows = set (set (s .table) 24 rows) (s .rowsAt) rows
 
 -- table.f0 with another second last row
 abbrev withLast : SmallTable → ℕ → List ℕ
@@ -92,13 +97,13 @@ headerOf s n = headerAt (take n (s .file)) (s .big) .refused
 unfoldable pub casesOf : SmallTable → List Bool
 casesOf s =
     -- A: TIME row 5 is bytes 537 to 544
-    gives (s .table) (s .file) 134 (cellIn 5 TIME) (8 * 537) 64
+    gives (s .table) (s .file) (s .text) (cellIn 5 TIME) (8 * 537) 64
     -- B: TIME row 2 begins at byte 673, in bucket 2
-    ∷ gives (s .table) (s .file) 134 (cellIn 2 TIME) (8 * 673) 64
+    ∷ gives (s .table) (s .file) (s .text) (cellIn 2 TIME) (8 * 673) 64
     -- C: FLAG row 5 is bit 4,225
-    ∷ gives (s .table) (s .file) 134 (cellIn 5 FLAG) 4225 1
+    ∷ gives (s .table) (s .file) (s .text) (cellIn 5 FLAG) 4225 1
     -- D: SCAN row 6 begins at byte 520
-    ∷ gives (s .table) (s .file) 134 (cellIn 6 SCAN) (8 * 520) 32
+    ∷ gives (s .table) (s .file) (s .text) (cellIn 6 SCAN) (8 * 520) 32
     -- E: row 7 gives 9
     ∷ refuses (s .table) (s .file) (cellIn 7 TIME) 9
     -- F: view of FLAG gives 14
@@ -110,8 +115,8 @@ casesOf s =
     -- I: index number 2 for three links gives 10
     ∷ refuses (s .table) (withIndexBuckets s 2) (cellIn 5 TIME) 10
     -- J: TIME at 32 is accepted, at 33 gives 11
-    ∷ gives (timeAt s 32) (s .file) 134 (Check 0) 0 0
-    ∷ gives (timeAt s 32) (s .file) 134 (cellIn 0 TIME) (8 * 672) 64
+    ∷ gives (timeAt s 32) (s .file) (s .text) (Check 0) 0 0
+    ∷ gives (timeAt s 32) (s .file) (s .text) (cellIn 0 TIME) (8 * 672) 64
     ∷ refuses (timeAt s 33) (s .file) (cellIn 0 TIME) 11
     -- K: the StandardStMan header object is 70 bytes, 74 with mark; where only its end is missing, it is blamed at its header, byte 4
     ∷ eqb (uintOf (s .big) 4 (s .file) 4) 70
@@ -132,9 +137,16 @@ littleCases =
     casesOf inLittle
     ++ ((eqb (headerAt (set f0 29 0) false .refused .number) 1 && eqb (headerAt (set f0 29 0) false .refused .byte) 8) ∷ [])
 
+-- A to K once more, of the file with rows of 64 bits; and a second last row whose low half alone is right: 2^32 + 6
+unfoldable pub wideCases : List Bool
+wideCases = casesOf inWide ++ (refuses wideDat (set wideF0 764 1) (cellIn 5 TIME) 11 ∷ [])
+
 -- Every case comes out as RULES.md 11.2 says.
 abbrev pub Right : Type 0
 Right = all (λ (b : Bool). b) cases ≡ true
 
 abbrev pub LittleRight : Type 0
 LittleRight = all (λ (b : Bool). b) littleCases ≡ true
+
+abbrev pub WideRight : Type 0
+WideRight = all (λ (b : Bool). b) wideCases ≡ true

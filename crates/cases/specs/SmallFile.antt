@@ -1,6 +1,7 @@
--- The small file (RULES.md 11.1), sixteen bytes a line, the little endian one, and the file of case L.
+-- The small file (RULES.md 11.1), sixteen bytes a line, the little endian one, the one with rows of 64 bits, and the file of case L.
 use Prim.Native.Nat.{ℕ}
 use mathlib.Core.List.{List, _++_}
+use lib.ListN.{take, drop, set, replicate}
 use Rattle.bytes_at.specs.Number.{bigBytes as row}
 
 -- table.dat: 7 rows; SCAN Int at 0, FLAG Bool at 16, TIME double at 17
@@ -245,6 +246,25 @@ littleF0 =
     ++ row 16 0x00000200000002000000000000000000
     ++ row 16 0x00000000000000000000000000000000
     ++ row 16 0x00000000000000000000000000000000
+
+-- the small file with rows of 64 bits: ColumnSet -3, whose count alone tells the rows, since Table's header says 0
+abbrev pub wideDat : List ℕ
+wideDat = take 813 (set (set (set tableDat 7 0xa6) 24 0) 812 0xfd) ++ row 8 7 ++ drop 817 tableDat
+
+-- the index text of the small file, and the same as an SSMIndex of version 2
+abbrev text : List ℕ
+text = take 56 (drop 584 f0) ++ take 56 (drop 712 f0) ++ take 22 (drop 776 f0)
+
+abbrev wideText : List ℕ
+wideText = take 97 (set (set (set text 7 0x8a) 23 2) 79 0x25) ++ row 16 0x00000000000000030000000000000006 ++ drop 105 text
+
+-- its table.f0: StandardStMan 4, and this text in the three index buckets
+abbrev pub wideF0 : List ℕ
+wideF0 =
+    set (set (take 512 f0) 28 4) 69 0x8e
+    ++ take 72 (drop 512 f0) ++ take 56 wideText
+    ++ take 72 (drop 640 f0) ++ take 56 (drop 56 wideText)
+    ++ take 8 (drop 768 f0) ++ drop 112 wideText ++ replicate 26 0
 
 -- a table.dat of 2 rows and one column FLAG, a direct array of 8 Bools, at offset 0
 abbrev pub boolsDat : List ℕ

@@ -50,7 +50,7 @@ pub fn read_index(f: &[u8], big: bool, at: usize) -> Index
     let wide = o.value == 2;
     let width = Width::of_int(wide);
     let firsts = aipsio::objects::row_block(f, n.next, n.value + 1, width);
-    let buckets = aipsio::objects::block(f, firsts.next, n.value, 4);
+    let buckets = aipsio::objects::block(f, firsts.next, n.value);
     let e = aipsio::objects::close(buckets.next, m);
     answer_index(e, n.value, wide, firsts.value, buckets.value)
 }

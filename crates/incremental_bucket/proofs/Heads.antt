@@ -3,24 +3,23 @@
 --     -short    the bucket ends before the number does
 --     -on       the number passes its tests
 -- Assumes nothing.
-use mathlib.Core.Path.{_≡_, refl, sym, ap, _∙_}
+use mathlib.Core.Path.{_≡_, refl, sym}
 use mathlib.Core.List.{List}
-use mathlib.Core.Bool.{Bool, true, false, _&&_, false≢true}
-use Prim.Native.Nat.{ℕ, _+_, _-_, _≤_, _<_}
+use Prim.Native.Nat.{ℕ, _+_, _≤_, _<_}
 use native.Mathlib.Omega.{arith}
-use lib.Dec.{leb, ltb}
-use borrow.Author.Tests.{lt-ltb, le-ltb, leb-true}
+use lib.Dec.{ltb}
+use borrow.Author.Tests.{lt-ltb, le-ltb}
 use Rattle.bytes_at.specs.Number.{uintOf}
 use Rattle.bytes_at.proofs.Stepped.{via}
 use Rattle.aipsio_rules.specs.declared.Cursor.{Cursor}
 use Rattle.aipsio_rules.specs.declared.Value.{Value}
 use Rattle.aipsio_rules.specs.Field.{refusedAt, movedTo, leftIn, judged, uintAt}
-use Rattle.aipsio_rules.proofs.Kept.{Clean, Refused, refused-reads, skipped-keeps, judged-keeps, settled-none, uint-reads}
-use Rattle.aipsio_rules.proofs.Sides.{judge-on, judge-refused, skip-on, skip-refused, settle-on}
+use Rattle.aipsio_rules.proofs.Kept.{Clean, Refused, refused-reads, judged-keeps, uint-reads}
+use Rattle.aipsio_rules.proofs.Sides.{judge-on, judge-refused}
 use Rattle.incremental_rules.specs.declared.Starts.{Starts}
 use Rattle.incremental_bucket.specs.Values.{refusedValue}
 use Rattle.incremental_rules.specs.Bucket.{startsAt, offsetsAt, columnPartAt}
-use Rattle.incremental_rules.proofs.Turns.{number-short, number-on, starts-none, offsets-none}
+use Rattle.incremental_rules.proofs.Turns.{uint-short, uint-on, starts-none, offsets-none}
 
 module _ (s : List ℕ) (c : Cursor) where
   module _ (width limit rows row bytes : ℕ) where
@@ -39,18 +38,18 @@ module _ (s : List ℕ) (c : Cursor) where
       pub column-short : left < 4 → refusedValue c (c .at) 1 ≡ columnPartAt s c width limit rows row bytes
       column-short l =
           column-off (refusedAt c (c .at) 1) 0 (λ z. omega arith)
-          (rw (← (number-short s c h e l)) (judged-keeps (refusedAt c (c .at) 1) (c .at) _ 11 .stays (λ z. omega arith)))
+          (rw (← (uint-short s c h e l)) (judged-keeps (refusedAt c (c .at) 1) (c .at) _ 11 .stays (λ z. omega arith)))
 
       module _ {n : ℕ} (l : 4 ≤ left) (q : n ≡ uintOf (c .big) 4 s (c .at)) where
         pub column-none : n ≡ 0 → refusedValue c (c .at) 11 ≡ columnPartAt s c width limit rows row bytes
         column-none z =
             column-off (refusedAt c (c .at) 11) n (λ y. omega arith)
-            (rw (← (number-on s c h e l q)) (sym (judge-refused (movedTo c (c .at + 4)) refl (c .at) (ltb 0 n) 11 (le-ltb 0 n (omega arith)))))
+            (rw (← (uint-on s c h e l q)) (sym (judge-refused (movedTo c (c .at + 4)) refl (c .at) (ltb 0 n) 11 (le-ltb 0 n (omega arith)))))
 
         pub column-on : {st : Starts} {r : Value} → (n ≡ 0 → ⊥) → st ≡ startsAt s (movedTo c (c .at + 4)) width n rows row
             → r ≡ offsetsAt s (st .next) n limit bytes (st .hit) → r ≡ columnPartAt s c width limit rows row bytes
         unfolding columnPartAt
         column-on z p y =
-            via _ (number-on s c h e l q) (
+            via _ (uint-on s c h e l q) (
             via _ (judge-on (movedTo c (c .at + 4)) refl (c .at) (ltb 0 n) 11 (lt-ltb 0 n (omega arith))) (
             via _ p y))

@@ -32,8 +32,8 @@ fn begin(c: Cursor, wide: bool, len: usize) -> BucketHead
     }
 }
 
-// The index offset x of a bucket of so many bytes, in the low three bytes of its first number: how long its data part is, x - 4, and
-// the cursor at its index part. The high byte tells whether its starts are Int64.
+// The index offset x of a bucket of so many bytes, in the low three bytes of its first number: how long its data part is, x - 4,
+// and the cursor at its index part. The high byte tells whether its starts are Int64.
 fn read_head(s: &[u8], c: Cursor, size: usize) -> BucketHead
     ensures { λ r. ⌜ r ≡ bucketHeadAt (now (s .entry)) c size ⌝ }
 {
@@ -46,7 +46,8 @@ fn read_head(s: &[u8], c: Cursor, size: usize) -> BucketHead
     begin(n, 16777216 <= word.value, len)
 }
 
-// A column's part of the index: the number of its values, their starts, of the width given, their offsets. Gives the offset of the row's value.
+// A column's part of the index: the number of its values, their starts, of the width given, their offsets. Gives the offset of the
+// row's value.
 fn read_column(
     s: &[u8],
     c: Cursor,

@@ -7,7 +7,7 @@
 use mathlib.Core.Path.{_≡_, refl, sym, ap, _∙_}
 use mathlib.Core.List.{List}
 use mathlib.Core.Bool.{Bool, true, cond, _&&_}
-use Prim.Native.Nat.{ℕ, zero, suc, _+_, _*_, _-_, _≤_, _<_, zero-le}
+use Prim.Native.Nat.{ℕ, zero, suc, _+_, _-_, _≤_, _<_, zero-le}
 use native.Mathlib.Decide.{ℕ-discrete}
 use native.Mathlib.Nat.{not-suc-le-zero}
 use native.Mathlib.Numerals.{add-one}
@@ -22,13 +22,13 @@ use Rattle.aipsio_rules.specs.declared.Value.{Value}
 use Rattle.aipsio_rules.specs.Field.{movedTo, leftIn, skipped, judged, sizedAt, uintAt}
 use Rattle.aipsio_rules.proofs.Kept.{Clean, clean-before, uint-reads, judged-keeps, skipped-keeps, _⨟_}
 use Rattle.aipsio_rules.proofs.Sides.{judge-on, skip-on}
-use Rattle.aipsio_rules.proofs.Accepted.{judged-passed, judged-within}
+use Rattle.aipsio_rules.proofs.Accepted.{judged-passed, judged-within, sized-fits, uint-is}
 use Rattle.incremental_rules.specs.declared.Starts.{Starts}
 use Rattle.incremental_rules.specs.Bucket.{startFits, startsAt, offsetsAt, begun, bucketHeadAt, isWide, lowBytes, columnPartAt, columnPartInto, columnPartsAt, bucketAt, indexOffset, startBytes, valuesIn, startIn, offsetOfValue, pastPart, partOf, PartAccepted, BucketAccepted}
 use Rattle.incremental_rules.specs.Place.{valueIn, offsetIn}
 use Rattle.incremental_rules.proofs.Turns.{same}
 use Rattle.incremental_rules.proofs.Last.{last-below}
-use Rattle.incremental_rules.proofs.Values.{fits-below, fits-first, fits-rise, first-fits, later-fits, before, past, uint-room, uint-on, Judged, judged-on, judged-read, startsFrom, starts-clean, StartsRead, starts-read, starts-on, offsetsFrom, offsets-clean, OffsetsRead, offsets-read, offsets-on}
+use Rattle.incremental_rules.proofs.Values.{fits-below, fits-first, fits-rise, first-fits, later-fits, before, past, number-is, Judged, judged-on, judged-read, startsFrom, starts-clean, StartsRead, starts-read, starts-on, offsetsFrom, offsets-clean, OffsetsRead, offsets-read, offsets-on}
 
 module _ (s : List ℕ) (big : Bool) where
   -- ---- a column's part
@@ -204,7 +204,7 @@ module _ (s : List ℕ) (big : Bool) where
       let p : d .at + (x - 4) ≡ c .at + x = omega (arith, r .low) in
       let w : judged d (c .at) (leb 4 x && leb x size) 11 ≡ d = sym (judge-on d refl (c .at) _ 11 (rw (le-leb 4 x (r .low), le-leb x size (r .high)))) in
       let n : skipped d (x - 4) ≡ movedTo d (d .at + (x - 4)) = sym (skip-on d refl refl (x - 4) (omega (arith, r .low, r .high))) in
-      rw (uint-on s big c o h (omega (arith, r .low, r .high)), w, n, p) (begun-on (movedTo c (c .at + x)) refl _ (x - 4))
+      rw (uint-is s c ∙ number-is s big 4 c o h (omega (arith, r .low, r .high)), w, n, p) (begun-on (movedTo c (c .at + x)) refl _ (x - 4))
 
   head-read : (c : Cursor) (size : ℕ) → c .big ≡ big → Clean (bucketHeadAt s c size .next) → HeadRead c size
   unfolding bucketHeadAt _>>=_
@@ -212,8 +212,8 @@ module _ (s : List ℕ) (big : Bool) where
       let word = uintAt s c in
       let x = lowBytes (word .value) in
       let hg = clean-before (skipped-keeps (judged (word .next) (c .at) (leb 4 x && leb x size) 11) (x - 4)) (rw begun-next at e) in
-      let u = uint-room s big c (judged-passed (word .next) (c .at) _ 10 hg .0) in
-      let v : word .value ≡ uintOf big 4 s (c .at) = ap (λ (y : Value). y .value) (uint-on s big c o (u .0) (u .1)) in
+      let u = sized-fits s c 4 (rw (uint-is s c) at (judged-passed (word .next) (c .at) _ 10 hg .0)) in
+      let v : word .value ≡ uintOf big 4 s (c .at) = ap (λ (y : Value). y .value) (uint-is s c ∙ number-is s big 4 c o (u .0) (u .1)) in
       let w = judged-within (word .next) (c .at) x 4 size 10 hg in
       record { low = rw v at (w .0); high = rw v at (w .1) }
 

@@ -41,11 +41,11 @@ same c h = ap (λ (x : ℕ). record { at = c .at; end = c .end; big = c .big; re
 
 -- ---- a uInt
 module _ (s : List ℕ) (c : Cursor) (h : Clean c) {left : ℕ} (e : left ≡ leftIn c) where
-  pub number-short : left < 4 → record { value = 0; next = refusedAt c (c .at) 1 } ≡ uintAt s c
-  number-short l = sized-short s c h e refl l refl ∙ sym (uint-is s c)
+  pub uint-short : left < 4 → record { value = 0; next = refusedAt c (c .at) 1 } ≡ uintAt s c
+  uint-short l = sized-short s c h e refl l refl ∙ sym (uint-is s c)
 
-  pub number-on : {v : ℕ} → 4 ≤ left → v ≡ uintOf (c .big) 4 s (c .at) → record { value = v; next = movedTo c (c .at + 4) } ≡ uintAt s c
-  number-on l q = sized-on s c h e refl l q ∙ sym (uint-is s c)
+  pub uint-on : {v : ℕ} → 4 ≤ left → v ≡ uintOf (c .big) 4 s (c .at) → record { value = v; next = movedTo c (c .at + 4) } ≡ uintAt s c
+  uint-on l q = sized-on s c h e refl l q ∙ sym (uint-is s c)
 
 -- ---- starts
 module _ (c : Cursor) (last hit : ℕ) where
@@ -124,7 +124,7 @@ module _ (s : List ℕ) (limit bytes hit : ℕ) where
     pub offset-short : left < 4 → record { value = 0; next = refusedAt (st .next) (st .next .at) 1 } ≡ offsetInto s limit bytes hit st i
     unfolding offsetInto
     offset-short l =
-        via _ (number-short s (st .next) h e l) (
+        via _ (uint-short s (st .next) h e l) (
         via _ refl (
         via _ (sym (judged-keeps (refusedAt (st .next) (st .next .at) 1) (st .next .at) _ 11 .stays (λ z. omega arith))) (
         via _ refl (
@@ -134,7 +134,7 @@ module _ (s : List ℕ) (limit bytes hit : ℕ) where
       pub offset-wrong : ok ≡ false → record { value = 0; next = refusedAt (st .next) (st .next .at) 11 } ≡ offsetInto s limit bytes hit st i
       unfolding offsetInto
       offset-wrong z =
-          via _ (number-on s (st .next) h e l q) (
+          via _ (uint-on s (st .next) h e l q) (
           via _ t (
           via _ (judge-refused (movedTo (st .next) (st .next .at + 4)) refl (st .next .at) ok 11 z) (
           via _ refl (
@@ -144,7 +144,7 @@ module _ (s : List ℕ) (limit bytes hit : ℕ) where
           → record { value = offset; next = movedTo (st .next) (st .next .at + 4) } ≡ offsetInto s limit bytes hit st i
       unfolding offsetInto
       offset-on z p =
-          via _ (number-on s (st .next) h e l q) (
+          via _ (uint-on s (st .next) h e l q) (
           via _ t (
           via _ (judge-on (movedTo (st .next) (st .next .at + 4)) refl (st .next .at) ok 11 z) (
           via _ p (

@@ -21,11 +21,11 @@ use Rattle.aipsio_rules.specs.Field.{movedTo, leftIn, judged, settled, sizedAt,
 use Rattle.aipsio_rules.proofs.Kept.{Clean, clean-before, sized-reads, uint-reads, judged-keeps, _⨟_}
 use Rattle.aipsio_rules.proofs.Sides.{judge-on}
 use Rattle.aipsio_rules.proofs.Ways.{sized-on}
-use Rattle.aipsio_rules.proofs.Accepted.{judged-passed, sized-fits, uint-is}
+use Rattle.aipsio_rules.proofs.Accepted.{judged-passed, sized-fits}
 use Rattle.incremental_rules.specs.declared.Starts.{Starts}
 use Rattle.incremental_rules.specs.Bucket.{startFits, started, startInto, offsetInto}
 use Rattle.bytes_at.specs.Lists.{lastBelow}
-use Rattle.incremental_rules.proofs.Turns.{same, number-on, started-on, started-off}
+use Rattle.incremental_rules.proofs.Turns.{same, started-on, started-off}
 
 -- ---- a start that fits
 module _ (last v rows : ℕ) where
@@ -117,17 +117,9 @@ module _ (s : List ℕ) (big : Bool) where
   abbrev numberOf : ℕ → Cursor → ℕ → ℕ
   numberOf w c i = uintOf big w s (c .at + i * w)
 
-  -- ---- a uInt
-  pub uint-room : (c : Cursor) → Clean (uintAt s c .next) → (Clean c) × (4 ≤ leftIn c)
-  uint-room c e = sized-fits s c 4 (rw (uint-is s c) at e)
-
-  pub uint-on : (c : Cursor) → c .big ≡ big → Clean c → 4 ≤ leftIn c
-      → uintAt s c ≡ record { value = uintOf big 4 s (c .at); next = movedTo c (c .at + 4) }
-  uint-on c o h l = sym (number-on s c h refl l (ap (λ (b : Bool). uintOf b 4 s (c .at)) (sym o)))
-
   -- ---- a number of so many bytes
   module _ (w : ℕ) where
-    number-is : (c : Cursor) → c .big ≡ big → Clean c → w ≤ leftIn c
+    pub number-is : (c : Cursor) → c .big ≡ big → Clean c → w ≤ leftIn c
         → sizedAt s c w ≡ record { value = uintOf big w s (c .at); next = movedTo c (c .at + w) }
     number-is c o h l = sym (sized-on s c h refl refl l (ap (λ (b : Bool). uintOf b w s (c .at)) (sym o)))
 

@@ -128,8 +128,9 @@ pub file-faults :
 unfolding bigFrom littleFrom uintOf sameBytes skipped skippedEach judged settled sizedAt uintAt rangedAt agreed markAt textBefore textAt nameAt entered opened closed blockHeadAt blockAt rowsAt rowBlockAt fieldsAt headed headerAt indexed indexAt links freeOk numbersAt all pairs allApart begun bucketHeadAt startFits started startInto startsAt offsetInto offsetsAt columnPartAt columnPartInto columnPartsAt bucketAt risesTo firstsFit indexFits cellInto cellsIn foundAs bucketInto searchOf refusalOf noColumn noBinding _▷_ orAt after _>>=_
 file-faults = (refl, refl, refl, refl, refl, refl, refl)
 
--- in bucket 0, a high byte of 1, whose wider starts leave FLAG no value; an index offset of 3, of 65, and of 64, where the bucket ends; no value of SCAN; a first start
--- of 1; a start at the bucket's row count, and one that does not rise; SCAN's value at offset 2, which ends the data part, and at 3
+-- in bucket 0, a high byte of 1, whose wider starts leave FLAG no value; an index offset of 3, of 65, and of 64, where the bucket
+-- ends; no value of SCAN; a first start of 1; a start at the bucket's row count, and one that does not rise; SCAN's value at offset 2,
+-- which ends the data part, and at 3
 pub bucket-faults :
     (refused (set file 512 1) ≡ blaming 11 0)
     × (refused (set file 515 3) ≡ blaming 11 0)

@@ -36,7 +36,7 @@ indexAt s big at = do
   wide ← eqb (o .value) 2
   width ← intWidth wide
   firsts ← rowBlockAt s (n .next) (n .value + 1) (bytesOf width)
-  buckets ← blockAt s (firsts .next) (n .value) 4
+  buckets ← blockAt s (firsts .next) (n .value)
   e ← closed (buckets .next) m
   indexed e (n .value) wide (firsts .value) (buckets .value)
 

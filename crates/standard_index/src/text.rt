@@ -26,7 +26,7 @@ fn read_set(s: &[u8], c: Cursor) -> SetRead
     let wide = o.value == 2;
     let width = Width::of_int(wide);
     let lasts = aipsio::objects::row_block(s, free, entries.value, width);
-    let buckets = aipsio::objects::block(s, lasts.next, entries.value, 4);
+    let buckets = aipsio::objects::block(s, lasts.next, entries.value);
     let next = aipsio::objects::close(buckets.next, m);
     SetRead {
         set: Set {

@@ -94,7 +94,7 @@ ssmIndexAt s c = do
   wide ← eqb (o .value) 2
   width ← intWidth wide
   lasts ← rowBlockAt s free (entries .value) (bytesOf width)
-  buckets ← blockAt s (lasts .next) (entries .value) 4
+  buckets ← blockAt s (lasts .next) (entries .value)
   d ← closed (buckets .next) m
   record {
     set = record {

@@ -11,7 +11,7 @@ use table_rules::Description;
 use table_rules::TableDescHead;
 use table_rules::TableHead;
 
-// Row count, which is not judged here, endianness and table type.
+// The count in Table's header, which is not judged here, endianness and table type.
 fn read_head(s: &[u8], c: Cursor) -> TableHead
     ensures { λ r. ⌜ r ≡ tableHeadAt (now (s .entry)) c ⌝ }
 {

@@ -59,8 +59,8 @@ fn read_ssm(s: &[u8], c: Cursor, n: usize) -> InfoRead
     let m = aipsio::numbers::mark(s, c);
     let o = aipsio::objects::open_named(s, m, b"SSM", 2, 2);
     let name = aipsio::strings::string(s, o.next, 0, 4096);
-    let offsets = aipsio::objects::block(s, name.next, n, 4);
-    let sets = aipsio::objects::block(s, offsets.next, n, 4);
+    let offsets = aipsio::objects::block(s, name.next, n);
+    let sets = aipsio::objects::block(s, offsets.next, n);
     let d = aipsio::objects::close(sets.next, m);
     InfoRead {
         info: Info {

@@ -111,7 +111,7 @@ module _ (s : List ℕ) (c : Cursor) where
   ssm-keeps : (n : ℕ) → Keeps c (ssmAt s c n .next)
   unfolding ssmAt _>>=_
   ssm-keeps n =
-      mark-stays s c .keeps ⨟ opened-reads s _ _ 2 2 .keeps ⨟ string-reads s _ 0 4096 .keeps ⨟ block-reads s _ n 4 .keeps ⨟ block-reads s _ n 4 .keeps
+      mark-stays s c .keeps ⨟ opened-reads s _ _ 2 2 .keeps ⨟ string-reads s _ 0 4096 .keeps ⨟ block-reads s _ n .keeps ⨟ block-reads s _ n .keeps
       ⨟ closed-keeps _ _
 
   ism-keeps : Keeps c (ismAt s c .next)

@@ -153,8 +153,8 @@ ssmAt s c n = do
   m ← markAt s c
   o ← opened s m (bytes "SSM") 2 2
   name ← stringAt s (o .next) 0 4096
-  offsets ← blockAt s (name .next) n 4
-  sets ← blockAt s (offsets .next) n 4
+  offsets ← blockAt s (name .next) n
+  sets ← blockAt s (offsets .next) n
   d ← closed (sets .next) m
   record { info = record { told = true; sets = sets .value; offsets = offsets .value }; next = d }
 

@@ -26,7 +26,7 @@ use Rattle.bytes_at.specs.Stages.{noRefusal, _▷_, orNo, OthersCarry0}
 abbrev pub wholeOf : List ℕ → Cursor
 wholeOf s = judged (record { at = 0; end = length s; big = true; refused = 0 }) 65536 (leb (length s) 65536) 4
 
--- the row count as a uInt, endianness 0 or 1 (else 5), "table type PlainTable"
+-- the count in Table's header, a uInt, endianness 0 or 1 (else 5), "table type PlainTable"
 unfoldable pub tableHeadAt : List ℕ → Cursor → TableHead
 tableHeadAt s c = do
   rows ← uintAt s c

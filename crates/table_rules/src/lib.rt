@@ -143,7 +143,7 @@ pub struct Binding {
     pub offset: u32,
 }
 
-// Row count and endianness, and the cursor past the table type.
+// The count in Table's header and the endianness, and the cursor past the table type.
 pub struct TableHead {
     pub rows: usize,
     pub big: bool,

@@ -55,16 +55,16 @@ module _ (s : List ℕ) (big : Bool) (at : ℕ) where
       let n = uintAt s (o .next) in
       let each = intBytes (eqb (o .value) 2) in
       let a = rowBlockAt s (n .next) (n .value + 1) each in
-      let b = blockAt s (a .next) (n .value) 4 in
+      let b = blockAt s (a .next) (n .value) in
       let w = indexed-clean (closed (b .next) m) (n .value) (eqb (o .value) 2) (a .value) (b .value) z in
       let start-to-n : Stays start (n .next) = mark-stays s start then opened-stays s m (bytes "ISMIndex") 1 2 then uint-stays s (o .next) in
       let start-to-a : Stays start (a .next) = start-to-n then row-block-stays s (n .next) (n .value + 1) each in
       let hb : Clean (b .next) = clean-before (closed-keeps (b .next) m) (w .0) in
-      let ha : Clean (a .next) = clean-before (block-stays s (a .next) (n .value) 4 .keeps) hb in
+      let ha : Clean (a .next) = clean-before (block-stays s (a .next) (n .value) .keeps) hb in
       let hn : Clean (n .next) = clean-before (row-block-stays s (n .next) (n .value + 1) each .keeps) ha in
       rw (w .1) (record {
         firsts-inside = omega (arith, row-block-inside s (n .next) (n .value + 1) each ha, start-to-n .ends hn);
-        buckets-inside = omega (arith, block-inside s (a .next) (n .value) 4 hb, start-to-a .ends ha);
+        buckets-inside = omega (arith, block-inside s (a .next) (n .value) hb, start-to-a .ends ha);
       })
 
   pub index-answered : {x : Index} → x ≡ indexAt s big at → (x ≡ indexAt s big at) × (x .refused .number ≡ 0 → IndexInside (length s) x)

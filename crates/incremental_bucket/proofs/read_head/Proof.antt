@@ -1,7 +1,5 @@
 -- `incremental_bucket::read_head` meets its contract: its calls compose as the definition says.
-use mathlib.Core.Path.{refl, ap, _∙_}
-use Prim.Native.Nat.{ℕ}
-use borrow.Author.Needs.{needs}
+use mathlib.Core.Path.{refl}
 use Rattle.bytes_at.proofs.Stepped.{via, free}
 use Rattle.incremental_rules.specs.Bucket.{bucketHeadAt}
 use Rattle.incremental_bucket.proofs.read_head.Statement.{statement}

@@ -26,6 +26,7 @@ use Rattle.standard_rules.specs.declared.Set.{Set}
 use Rattle.standard_rules.specs.Header.{headerAt}
 use Rattle.standard_rules.specs.Index.{noSet, indexAt, indexTextOf}
 use Rattle.standard_index.specs.Bounds.{SetInside}
+use Rattle.standard_index.proofs.text.IndexLaws.{longer}
 use Rattle.incremental_rules.specs.Check.{checkedAs as incrementalAs}
 use Rattle.incremental_rules.specs.Place.{placeOf as incrementalPlace}
 use Rattle.incremental_rules.proofs.Places.{checked-there}
@@ -52,15 +53,6 @@ use Rattle.lookup_rules.proofs.Looks.{looks-standard, looks-there}
 use Rattle.lookup_rules.proofs.Stages.{check-of, row-passed, stages-sequence, stages-kind, target-column, target-sequence, target-position, target-binding, target-described, stages-plan, stages-set, stages-big, stages-first}
 use Rattle.lookup.specs.Answering.{Findable, cellFound, answerWith}
 use Rattle.lookup.proofs.answer.Placing.{set-told, size-told, set-known, set-same, set-covered, set-inside, size-most}
-
--- a set that lies in a text lies in a longer one
-longer : {a b : ℕ} {x : Set} → a ≤ b → SetInside a x → SetInside b x
-longer h i = record {
-  lasts-inside = omega (arith, i .lasts-inside);
-  buckets-inside = omega (arith, i .buckets-inside);
-  per-least = i .per-least;
-  per-most = i .per-most;
-}
 
 -- ---- where nothing is refused, of a question that asks for a cell of a StandardStMan file
 module _ (t f : List ℕ) (r : Request) (l : ℕ) (z : stagesOf t f r l .refused .number ≡ 0) (w : Cell r)

@@ -29,9 +29,9 @@ use Rattle.standard_index.specs.Bounds.{SetInside}
 use Rattle.aipsio_rules.proofs.Ends.{Stays, stays-same, _then_, uint-stays, ranged-stays, mark-stays}
 use Rattle.aipsio_rules.proofs.ObjectEnds.{opened-stays, map-stays, block-stays, row-block-stays, closed-stays}
 
--- a longer text
-wider : {a b : ℕ} {x : Set} → a ≤ b → SetInside a x → SetInside b x
-wider h w = record {
+-- a set that lies in a text lies in a longer one
+pub longer : {a b : ℕ} {x : Set} → a ≤ b → SetInside a x → SetInside b x
+longer h w = record {
   lasts-inside = omega arith;
   buckets-inside = omega arith;
   per-least = w .per-least;
@@ -43,7 +43,7 @@ module _ (s : List ℕ) (c : Cursor) where
   unfolding ssmIndexAt _>>=_
   set-stays =
       closed-stays (mark-stays s c)
-      (opened-stays s _ _ 1 2 then uint-stays s _ then ranged-stays s _ 4 1 8388608 3 then uint-stays s _ then map-stays s _ then row-block-stays s _ _ _ then block-stays s _ _ 4)
+      (opened-stays s _ _ 1 2 then uint-stays s _ then ranged-stays s _ 4 1 8388608 3 then uint-stays s _ then map-stays s _ then row-block-stays s _ _ _ then block-stays s _ _)
 
   pub set-inside : Clean (ssmIndexAt s c .next) → SetInside (c .end) (ssmIndexAt s c .set)
   unfolding ssmIndexAt _>>=_
@@ -56,20 +56,20 @@ module _ (s : List ℕ) (c : Cursor) where
       let f = mapAt s (k .next) in
       let w = intBytes (eqb (o .value) 2) in
       let l = rowBlockAt s f (n .value) w in
-      let b = blockAt s (l .next) (n .value) 4 in
+      let b = blockAt s (l .next) (n .value) in
       let r-to-f : Stays (r .next) f = uint-stays s (r .next) then map-stays s (k .next) in
       let c-to-f : Stays c f =
       mark-stays s c then opened-stays s m (bytes "SSMIndex") 1 2 then uint-stays s (o .next) then ranged-stays s (n .next) 4 1 8388608 3 then r-to-f
       in
       let c-to-l : Stays c (l .next) = c-to-f then row-block-stays s f (n .value) w in
       let hb : Clean (b .next) = clean-before (closed-keeps (b .next) m) e in
-      let hl : Clean (l .next) = clean-before (block-stays s (l .next) (n .value) 4 .keeps) hb in
+      let hl : Clean (l .next) = clean-before (block-stays s (l .next) (n .value) .keeps) hb in
       let hf : Clean f = clean-before (row-block-stays s f (n .value) w .keeps) hl in
       let hr : Clean (r .next) = clean-before (r-to-f .keeps) hf in
       let p = ranged-within s (n .next) 4 1 8388608 3 hr in
       record {
         lasts-inside = omega (arith, row-block-inside s f (n .value) w hl, c-to-f .ends hf);
-        buckets-inside = omega (arith, block-inside s (l .next) (n .value) 4 hb, c-to-l .ends hl);
+        buckets-inside = omega (arith, block-inside s (l .next) (n .value) hb, c-to-l .ends hl);
         per-least = p .0;
         per-most = p .1;
       }
@@ -93,7 +93,7 @@ module _ (s : List ℕ) (c : Cursor) where
       let one = ssmIndexAt s (all .next) in
       let q : Clean (all .next) = clean-before (set-stays s (all .next) .keeps) e in
       let v = turns-inside n (omega arith) q in
-      let w = wider (turns-stay n .ends q) (set-inside s (all .next) e) in
+      let w = longer (turns-stay n .ends q) (set-inside s (all .next) e) in
       record {
         long = length-set (all .sets) n (one .set) ∙ v .long;
         each-inside = λ k l. elim (ℕ-discrete k n) [

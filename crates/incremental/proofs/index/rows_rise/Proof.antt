@@ -1,5 +1,4 @@
 -- `incremental::index::rows_rise` meets its contract. The loop's invariant: the first rows that are left decide.
-use Prim.Native.Nat.{_+_, _*_}
 use native.Mathlib.Omega.{arith}
 use native.Mathlib.Nat.{add-mul}
 use borrow.Author.Needs.{needs}

@@ -9,7 +9,7 @@ use Rattle.bytes_at.proofs.Loops.{after-none, after-more}
 use Rattle.bytes_at.proofs.Stepped.{free}
 use Rattle.aipsio_rules.specs.declared.Value.{Value}
 use Rattle.incremental_rules.specs.Bucket.{offsetInto}
-use Rattle.incremental_bucket.proofs.values.Room.{room-at, no-room-at}
+use Rattle.bytes_at.proofs.Room.{room-at, no-room-at}
 use Rattle.incremental_rules.proofs.Turns.{offset-short, offset-wrong, offset-on, offsets-none, offsets-stop, offsets-all}
 use Rattle.incremental_bucket.proofs.offsets.read_offsets.Statement.{statement}
 use Rattle.incremental_bucket.proofs.offsets.read_offsets.Tie as tie

@@ -10,7 +10,7 @@ use Rattle.bytes_at.proofs.Loops.{after-none, after-more}
 use Rattle.bytes_at.proofs.Stepped.{free}
 use Rattle.incremental_rules.specs.declared.Starts.{Starts}
 use Rattle.incremental_rules.specs.Bucket.{startInto}
-use Rattle.incremental_bucket.proofs.values.Room.{room-at, no-room-at}
+use Rattle.bytes_at.proofs.Room.{room-at, no-room-at}
 use Rattle.aipsio_rules.proofs.Bounds.{bytes-some}
 use Rattle.incremental_rules.proofs.Turns.{start-short, start-wrong, start-on, starts-none, starts-stop, starts-all}
 use Rattle.incremental_bucket.proofs.values.read_starts.Statement.{statement}

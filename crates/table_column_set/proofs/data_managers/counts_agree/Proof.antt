@@ -1,5 +1,4 @@
 -- `table_column_set::data_managers::counts_agree` meets its contract: its branches are the definition's cases.
-use borrow.Author.Tests.{eq-eqb, ne-eqb}
 use Rattle.table_column_set.proofs.data_managers.counts_agree.Statement.{statement}
 use Rattle.table_column_set.proofs.data_managers.counts_agree.Tie as tie
 
