@@ -44,14 +44,15 @@ expect() {
 }
 
 expect 0 "no difference" --min 12000 --each 1..8 --bytes table,info tables 1 12000 , large 1 20 , bad -- "$model"
-expect 0 "no difference" --min 14000 prefixes -- "$model"
-expect 0 "no difference" --min 8000 --each 1..7 --bytes table,file,text,little-file,little-text fields -- "$model"
-expect 0 "no difference" --min 9000 torn -- "$model"
+expect 0 "no difference" --min 16000 prefixes -- "$model"
+expect 0 "no difference" --min 13000 --each 1..7 --bytes table,file,text,little-file,little-text fields -- "$model"
+expect 0 "no difference" --min 18000 torn -- "$model"
 expect 0 "no difference" --min 108000 types , types 1 1000 -- "$model"
 expect 0 "no difference" --min 10000 --each 1..14 --bytes file,text,little-file,little-text standard 1 10000 -- "$model"
 expect 0 "no difference" --min 10000 --each 1..12 --bytes file,little-file incremental 1 10000 -- "$model"
 expect 0 "no difference" --min 10000 --each 1..14 small-file -- "$model"
 expect 0 "no difference" --min 15000 looks -- "$model"
+expect 0 "no difference" --min 15000 rows -- "$model"
 expect 0 "no difference" --min 10 files-large 1 10 -- "$model"
 
 expect 1 "difference at request" tables 1 3000 -- sh -c "'$model' | sed 's/^refused 7/refused 1/'"
@@ -78,6 +79,16 @@ for change in "s/$placed 2 /\\1 3 /" "s/$placed 12 /\\1 11 /" "s/$placed 0 be/\\
     "s/$placed ([^ ]*)\$/\\1 0 \\2/" "s/^refused 9 /refused 9 0 /" "s/$placed 0 (-|0*)\$/\\1 1 \\2/"; do
     expect 1 "difference at request" looks -- sh -c "'$model' | sed -E '$change'"
 done
+# Row numbers of 64 bits: a count in its low half, the largest refused, one more accepted, one below 0 accepted or left to the map,
+# a row as the one with the same low half, and the old range of counts and version of buckets.
+for change in 's/^ok rows=4294967303 /ok rows=7 /' 's/^ok rows=4611686018427387904 .*/refused 4 813/' \
+    's/^refused 4 [0-9]+$/ok rows=4611686018427387905/' 's/^refused 4 [0-9]+ ([0-9a-f-]+)$/ok SSM \1/' \
+    's/^refused 4 [0-9]+ /refused 11 0 /' 's/^ok rows=2147483648 .*/refused 4 21/' 's/^ok ISM .*/refused 3 512 -/'; do
+    expect 1 "difference at request" rows -- sh -c "'$model' | sed -E '$change'"
+done
+expect 1 "difference at request" rows -- sh -c "sed -E 's/^(place .*) 4294967296 ([01] 0)\$/\1 0 \2/' | '$model'"
+expect 1 "difference at request" incremental 1 2000 -- sh -c "'$model' | sed -E 's/^refused 4 [0-9]+ /refused 11 0 /'"
+expect 1 "difference at request" standard 1 2000 -- sh -c "'$model' | sed -E 's/^refused 4 (9|1)[0-9]+ /refused 11 0 /'"
 # The byte: one more, 0 in its place, not there, in a room's place, and in an answer that is not refused; not in a listing.
 for change in 's/^(refused . [0-9]*)3( |$)/\14\2/' 's/^(refused .) [0-9]+/\1 0/' 's/^(refused .) [0-9]+/\1/' \
     's/^(refused .) [0-9]+ [0-9a-f-]+$/\1 0/' 's/^ok SSM/ok 0 SSM/' 's/^(726566757365642...)20.*0a$/\10a/'; do
@@ -127,7 +138,7 @@ for set in tables types standard incremental; do
     "$bin/requests" "$set" 1 200 >"$scratch/requests"
     "$bin/requests" "$set" 1 200 | cmp - "$scratch/requests"
 done
-for set in fields torn looks; do
+for set in fields torn looks rows; do
     "$bin/requests" "$set" >"$scratch/requests"
     "$bin/requests" "$set" | cmp - "$scratch/requests"
 done

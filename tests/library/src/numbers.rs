@@ -39,19 +39,19 @@ struct Case {
 impl Case {
     /// Some of the rows.
     fn some(asked: Asked, rng: &mut Rng) -> Self {
-        let mut rows = vec![0, u64::from(asked.rows).saturating_sub(1)];
+        let mut rows = vec![0, asked.rows.saturating_sub(1)];
         if !asked.border_rows.is_empty() {
-            rows.extend([0; 2].map(|_| u64::from(rng.pick(&asked.border_rows))));
+            rows.extend([0; 2].map(|_| rng.pick(&asked.border_rows)));
         }
-        rows.push(rng.number() % u64::from(asked.rows).max(1));
+        rows.push(rng.number() % asked.rows.max(1));
         rows.dedup();
         Self { room: room_for(asked.index_length), table: asked.table, file: asked.file, rows, is_whole: false }
     }
 
     /// Rows beside all borders, of a good file.
     fn whole<F: BucketFile>(subject: &Subject<F>) -> Self {
-        let rows = u64::from(subject.table.rows);
-        let borders = subject.file.border_rows().into_iter().map(u64::from).filter(|row| *row < rows);
+        let rows = subject.table.rows();
+        let borders = subject.file.border_rows().into_iter().filter(|row| *row < rows);
         let mut rows: Vec<u64> = [0, 1, 2, rows - 1].into_iter().chain(borders).collect();
         rows.sort_unstable();
         rows.dedup();
@@ -246,7 +246,7 @@ impl Comparison {
         let room = *room;
         self.table(table)?;
         let described = model::describe(table).ok();
-        let (columns, row_count) = described.as_ref().map_or((1, 1), |d| (d.columns.len() as u64, u64::from(d.rows)));
+        let (columns, row_count) = described.as_ref().map_or((1, 1), |d| (d.columns.len() as u64, d.rows));
         let mut ask = |room, question: Question<'_>| self.ask(table, file, room, question);
 
         let managers = described.iter().flat_map(|d| &d.managers);
@@ -401,7 +401,7 @@ fn faulty_above_4_gib() -> [(u64, fn() -> Case); 2] {
     };
     let version = || {
         let mut subject = large_files::incremental_above_4_gib(0);
-        subject.file.index.header.version = 2;
+        subject.file.index.header.version = 3;
         Case::whole(&subject)
     };
     [(1, torn), (3, version)]
@@ -427,16 +427,26 @@ fn samples() -> Vec<(PathBuf, Case)> {
     let mut cases = Vec::new();
     for sample in entries(Path::new("samples")) {
         let table = read(&sample.join("table.dat"));
-        let rows = model::describe(&table).map_or(1, |description| u64::from(description.rows));
+        let rows = sample_rows(model::describe(&table).map_or(1, |description| description.rows));
         let is_file =
             |path: &PathBuf| path.file_name().is_some_and(|name| name.to_string_lossy().starts_with("table.f"));
         let files = entries(&sample).into_iter().filter(is_file).map(|path| (read(&path), path));
         for (file, path) in files.chain([(Vec::new(), sample)]) {
             let room = room_needed(&table, &file);
-            cases.push((path, Case { table: table.clone(), file, room, rows: (0..rows).collect(), is_whole: true }));
+            cases.push((path, Case { table: table.clone(), file, room, rows: rows.clone(), is_whole: true }));
         }
     }
     cases
+}
+
+/// All rows, or of many the first and the last and those beside powers of two.
+fn sample_rows(rows: u64) -> Vec<u64> {
+    if rows <= 100 {
+        return (0..rows).collect();
+    }
+    let powers = (5..63).flat_map(|power| [(1 << power) - 1, 1 << power, (1 << power) + 1]);
+    let some = (0..4).chain(powers).filter(|row| *row < rows - 2);
+    some.chain(rows - 2..rows).collect()
 }
 
 /// The shortest room with which the model accepts a file for one of the managers.
@@ -500,6 +510,17 @@ fn compare(comparison: &mut Comparison, seed: u64, count: u64) -> Result<(), Str
         if first.map(|[.., looks, entries, _]| [looks, entries]) != Ok([12, 4095]) {
             return Err("4,095 entries: row 0 is not found after 12 looks".to_string());
         }
+    }
+    // More rows than 32 bits can count: 571 MB, nearly all zero. Then the same with the low halves of its last rows alone.
+    for endianness in [0, 1] {
+        let mut case = Case::whole(&large_files::past_32_bits(endianness));
+        let is_large = |row: &u64| *row >= (1 << 32) - (1 << 23);
+        let (large, others): (Vec<u64>, Vec<u64>) = case.rows.into_iter().partition(is_large);
+        let powers = [31, 32].map(|power| 1 << power).into_iter().flat_map(|row| row - 1..=row + 1);
+        case.rows = others.into_iter().step_by(89).chain(large).chain(powers).collect();
+        at("past 32 bits", endianness.into(), comparison.file(&case, &mut rng(0)))?;
+        let low = Case { rows: vec![0, 1 << 32], ..Case::whole(&large_files::low_halves(endianness)) };
+        at("low halves", endianness.into(), comparison.file(&low, &mut rng(0)))?;
     }
     for number in 0..count {
         at("tables", number, comparison.table(&sets::case(&mut rng(number)).bytes))?;

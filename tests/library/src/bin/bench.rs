@@ -104,7 +104,7 @@ impl Files {
             table: subject.table.encode(),
             file: subject.file.encode(),
             room: subject.file.index_length(),
-            rows: subject.table.rows.into(),
+            rows: subject.table.rows(),
             column,
             calls,
         }
@@ -182,7 +182,7 @@ impl Files {
         let rows_in_turn = || {
             let mut row = 0;
             move || {
-                row = (row + 7919) % rows;
+                row = (row + (rows / 1000).max(7919)) % rows;
                 row
             }
         };
@@ -203,6 +203,7 @@ fn main() {
     title("Description of");
     description("the small table", &read("samples/small/table.dat"), 2_000);
     description("the little endian small table", &read("samples/little/table.dat"), 2_000);
+    description("the survey's table, ColumnSet -3", &read("samples/survey/table.dat"), 2_000);
     description("the table with arrays", &read("samples/arrays/table.dat"), 500);
     let large = large_table();
     description("a table of 64 columns", &large, 100);
@@ -215,7 +216,9 @@ fn main() {
         Files::new("the small file", &small, 2, 1_000),
         Files::new("the little endian small file", &little, 2, 1_000),
         Files::new("64 columns, 16 sets, 2,000 entries in an index chain", &many_sets(), 63, 20),
+        Files::new("the same with rows of 64 bits, SSMIndex 2", &wide(many_sets()), 63, 20),
         Files::new("6 columns, 1 set, 1,349 buckets of 32,768 bytes", &large_buckets(), 5, 20),
+        Files::new("Incremental: the survey, 5,000,000,000 rows", &writer::samples::survey_file(), 0, 1_000),
         Files::new("Incremental: 10 columns, 1 bucket of 32,768 bytes", &incremental(1), 5, 200),
         Files::new("Incremental: 10 columns, 4,000 buckets of 32,768 bytes", &incremental(4_000), 5, 1),
     ];
@@ -257,8 +260,8 @@ fn placed(set: u32, columns: &[Column], rows_per_bucket: u32) -> Vec<Column> {
 }
 
 /// Full buckets: so many rows in each of these.
-fn entries(rows_per_bucket: u32, buckets: impl Iterator<Item = u32>) -> Vec<(u32, u32)> {
-    buckets.enumerate().map(|(entry, bucket)| (rows_per_bucket * (entry as u32 + 1) - 1, bucket)).collect()
+fn entries(rows_per_bucket: u32, buckets: impl Iterator<Item = u32>) -> Vec<(u64, u32)> {
+    (1..).zip(buckets).map(|(count, bucket)| (u64::from(rows_per_bucket) * count - 1, bucket)).collect()
 }
 
 /// 125 buckets of 8 rows in each set; the sets take turns, and the index buckets follow.
@@ -271,8 +274,14 @@ fn many_sets() -> Subject<StandardFile> {
     let index = |set| Index::new(PER, kinds.len(), &entries(PER, (0..ENTRIES).map(|entry| entry * SETS + set)));
     let buckets = Buckets::new("StandardStMan", 3, 1, 128, SETS * ENTRIES);
     let file = StandardFile::new(buckets, Vec::new(), (0..SETS).map(index).collect());
-    let table = lean::bare(ENTRIES * PER, 1, columns, vec![Manager::new("StandardStMan", 0)]);
+    let table = lean::bare((ENTRIES * PER).into(), 1, columns, vec![Manager::new("StandardStMan", 0)]);
     Subject { table, number: 0, file }
+}
+
+/// The same file with SSMIndex 2 in each set; the index chain grows.
+fn wide(mut subject: Subject<StandardFile>) -> Subject<StandardFile> {
+    subject.file.indices.iter_mut().for_each(Index::widen);
+    subject
 }
 
 /// 1,348 data buckets of 740 rows, then the index bucket.
@@ -290,7 +299,7 @@ fn large_buckets() -> Subject<StandardFile> {
     let index = Index::new(PER, kinds.len(), &entries(PER, 0..DATA));
     let buckets = Buckets::new("StandardStMan", 3, 1, 32_768, DATA + 1);
     let file = StandardFile::new(buckets, vec![DATA], vec![index]);
-    let table = lean::bare(DATA * PER, 1, placed(0, &kinds, PER), vec![Manager::new("StandardStMan", 0)]);
+    let table = lean::bare((DATA * PER).into(), 1, placed(0, &kinds, PER), vec![Manager::new("StandardStMan", 0)]);
     Subject { table, number: 0, file }
 }
 
@@ -300,20 +309,18 @@ fn incremental(buckets: u32) -> Subject<IncrementalFile> {
     const VALUES: u32 = 20;
     const BYTES: u32 = 8;
     let columns = vec![Column::scalar(DOUBLE, ""); 10];
-    let values = |column| Values {
-        count: None,
-        starts: (0..VALUES).map(|value| value * (ROWS / VALUES)).collect(),
-        offsets: (0..VALUES).map(|value| (column * VALUES + value) * BYTES).collect(),
+    let values = |column| {
+        let starts = (0..VALUES).map(|value| (value * (ROWS / VALUES)).into());
+        let offsets = (0..VALUES).map(|value| (column * VALUES + value) * BYTES);
+        Values::new(starts.collect(), offsets.collect())
     };
-    let bucket = |number| DataBucket {
-        number,
-        index_offset: None,
-        data: vec![0; (10 * VALUES * BYTES) as usize],
-        columns: (0..10).map(values).collect(),
+    let bucket = |number| {
+        let data = vec![0; (10 * VALUES * BYTES) as usize];
+        DataBucket::new(number, data, (0..10).map(values).collect())
     };
-    let first_rows = (0..=buckets).map(|bucket| bucket * ROWS).collect();
+    let first_rows = (0..=buckets).map(|bucket| (bucket * ROWS).into()).collect();
     let layout = Buckets::new("IncrementalStMan", 5, 1, 32_768, buckets);
     let file = IncrementalFile::new(layout, first_rows, (0..buckets).map(bucket).collect());
-    let table = lean::bare(buckets * ROWS, 1, columns, vec![Manager::new("IncrementalStMan", 0)]);
+    let table = lean::bare((buckets * ROWS).into(), 1, columns, vec![Manager::new("IncrementalStMan", 0)]);
     Subject { table, number: 0, file }
 }

@@ -145,9 +145,9 @@ mod tests {
     }
 
     #[test]
-    fn looks() {
-        assert_eq!(parse("looks -- cat").unwrap().sets, [Set::Looks]);
-        assert!(usage().contains("\n  looks "));
+    fn looks_and_rows() {
+        assert_eq!(parse("looks, rows -- cat").unwrap().sets, [Set::Looks, Set::Rows]);
+        assert!(usage().contains("\n  looks ") && usage().contains("\n  rows "));
     }
 
     #[test]
@@ -169,6 +169,7 @@ mod tests {
             "standard 1 -- cat",
             "types 1 -- cat",
             "looks 1 2 -- cat",
+            "rows 1 -- cat",
         ] {
             assert!(parse(line).is_err(), "{line}");
         }

@@ -4,7 +4,7 @@
 //! at the byte at which the field begins. The reader alone knows the byte order
 //! of the numbers that it reads.
 
-use crate::byte_order::{ByteOrder, Numbers};
+use crate::byte_order::{ByteOrder, Numbers, Width};
 use crate::refusal::{
     DISAGREES, DOES_NOT_FIT, ENDS_EARLY, OUT_OF_RANGE, Refusal, WRONG_LENGTH, WRONG_NAME,
     WRONG_VERSION,
@@ -135,9 +135,23 @@ impl<'a> Reader<'a> {
         Ok(self.order.int64(stored))
     }
 
-    /// So many uInts; the first that does not fit is blamed.
-    pub fn numbers(&mut self, count: usize) -> Result<Numbers<'a>, Refusal> {
-        Ok(Numbers::new(self.run(count, 4)?, self.order))
+    /// A number of this width.
+    #[inline]
+    pub fn number(&mut self, width: Width) -> Result<i64, Refusal> {
+        match width {
+            Width::UInt => self.uint().map(i64::from),
+            Width::Int64 => self.int64(),
+        }
+    }
+
+    /// So many numbers of this width, judged one by one: the first that does
+    /// not fit or is negative is blamed.
+    pub fn numbers(&mut self, count: usize, width: Width) -> Result<Numbers<'a>, Refusal> {
+        let run = self.rest;
+        for _ in 0..count {
+            self.judged(|fields| fields.number(width), OUT_OF_RANGE, |number| *number >= 0)?;
+        }
+        Ok(Numbers::new(&run[..count * width.bytes()], width, self.order))
     }
 
     pub fn bool(&mut self) -> Result<bool, Refusal> {
@@ -219,12 +233,12 @@ impl<'a> Reader<'a> {
         Ok((version, fields))
     }
 
-    /// A Block of `count` numbers of 4 bytes; another count disagrees, before
-    /// the numbers are looked at.
-    pub fn block(&mut self, count: u64) -> Result<Numbers<'a>, Refusal> {
+    /// A Block of `count` numbers of this width; another count disagrees,
+    /// before the numbers are looked at.
+    pub fn block(&mut self, count: u64, width: Width) -> Result<Numbers<'a>, Refusal> {
         let (_, mut fields) = self.object(b"Block", &[1])?;
         let stated = fields.judged(Self::uint, DISAGREES, |stated| u64::from(*stated) == count)?;
-        let numbers = fields.numbers(stated as usize)?;
+        let numbers = fields.numbers(stated as usize, width)?;
         fields.finish()?;
         Ok(numbers)
     }

@@ -29,12 +29,12 @@ pub struct HeaderStart {
 pub fn header<'a>(
     file: &'a [u8],
     name: &[u8],
-    version: u32,
+    versions: &[u32],
     order: ByteOrder,
 ) -> Result<(HeaderStart, Reader<'a>), Refusal> {
     let mut container = Reader::new(file.get(..HEADER_ROOM).unwrap_or(file), 0, order);
     container.expect_mark()?;
-    let (_, mut fields) = container.object(name, &[version])?;
+    let (_, mut fields) = container.object(name, versions)?;
     fields.judged(Reader::bool, DISAGREES, |is_big| ByteOrder::of(*is_big) == order)?;
     let bucket_size = fields.uint_within(BUCKET_SIZE)?;
     let bucket_count = fields.uint_up_to(MAX_BUCKETS)?;
@@ -139,7 +139,7 @@ impl<'a> Buckets<'a> {
     }
 
     /// Adds a bucket that the index names: in range, and not yet in the set.
-    pub fn claim(&self, claimed: &mut BucketSet, number: u32) -> Result<(), Refusal> {
+    pub fn claim(&self, claimed: &mut BucketSet, number: u64) -> Result<(), Refusal> {
         let bucket = number as usize;
         if !self.contain(bucket) || !claimed.insert(bucket) {
             return Err(WRONG_MAP);

@@ -34,35 +34,73 @@ impl ByteOrder {
     }
 }
 
-/// A run of numbers of 4 bytes, as they are stored.
+/// How a number is stored; versions tell it of row numbers.
+#[derive(Clone, Copy, Debug, PartialEq, Eq)]
+pub enum Width {
+    UInt,
+    Int64,
+}
+
+impl Width {
+    /// Of the rows of an SSMIndex or ISMIndex of version 1 or 2.
+    pub fn of_rows(version: u32) -> Self {
+        if version == 1 { Self::UInt } else { Self::Int64 }
+    }
+
+    pub fn bytes(self) -> usize {
+        match self {
+            Self::UInt => 4,
+            Self::Int64 => 8,
+        }
+    }
+}
+
+/// A run of numbers of one width, as they are stored; none is negative.
 #[derive(Clone, Copy, Debug)]
 pub struct Numbers<'a> {
-    stored: &'a [[u8; 4]],
+    stored: &'a [u8],
+    width: Width,
     order: ByteOrder,
 }
 
 impl<'a> Numbers<'a> {
-    /// Of bytes that are a multiple of 4.
-    pub fn new(bytes: &'a [u8], order: ByteOrder) -> Self {
-        Self { stored: bytes.as_chunks().0, order }
+    /// Of bytes that are a multiple of the width.
+    pub fn new(stored: &'a [u8], width: Width, order: ByteOrder) -> Self {
+        Self { stored, width, order }
     }
 
     pub fn count(&self) -> usize {
-        self.stored.len()
+        self.stored.len() / self.width.bytes()
     }
 
-    pub fn at(&self, index: usize) -> u32 {
-        self.order.uint(self.stored[index])
+    pub fn at(&self, index: usize) -> u64 {
+        let stored = &self.stored[index * self.width.bytes()..];
+        match self.width {
+            Width::UInt => self.order.uint(first(stored)).into(),
+            Width::Int64 => self.order.int64(first(stored)) as u64,
+        }
     }
 
-    pub fn iter(&self) -> impl Iterator<Item = u32> + use<'a> {
-        let order = self.order;
-        self.stored.iter().map(move |stored| order.uint(*stored))
+    pub fn iter(self) -> impl Iterator<Item = u64> + use<'a> {
+        (0..self.count()).map(move |index| self.at(index))
     }
 
     /// How many numbers there are before the first for which `is_before` does
     /// not hold; after it there is none for which it does.
-    pub fn partition_point(&self, is_before: impl Fn(u32) -> bool) -> usize {
-        self.stored.partition_point(|stored| is_before(self.order.uint(*stored)))
+    pub fn partition_point(&self, is_before: impl Fn(u64) -> bool) -> usize {
+        let (mut start, mut end) = (0, self.count());
+        while start < end {
+            let middle = start.midpoint(end);
+            match is_before(self.at(middle)) {
+                true => start = middle + 1,
+                false => end = middle,
+            }
+        }
+        start
     }
+}
+
+/// The first bytes, of which there are enough.
+fn first<const N: usize>(bytes: &[u8]) -> [u8; N] {
+    *bytes.first_chunk().expect("the number is there")
 }

@@ -3,9 +3,9 @@
 
 use crate::aipsio::Reader;
 use crate::buckets::{BucketSet, Buckets, header};
-use crate::byte_order::Numbers;
+use crate::byte_order::{Numbers, Width};
 use crate::data_type::DataType;
-use crate::refusal::{Refusal, WRONG_MAP, WRONG_VERSION};
+use crate::refusal::{Refusal, WRONG_MAP};
 use crate::table::{Column, Description};
 
 /// A bucket begins with the offset of its index; the data part follows it.
@@ -29,7 +29,7 @@ impl<'a> IncrementalFile<'a> {
         file: &'a [u8],
     ) -> Result<Self, Refusal> {
         let order = description.byte_order;
-        let (start, mut fields) = header(file, b"IncrementalStMan", 5, order)?;
+        let (start, mut fields) = header(file, b"IncrementalStMan", &[5], order)?;
         fields.uint()?; // unique column number
         let free_count = fields.uint()?;
         let first_free = fields.int()?;
@@ -48,7 +48,7 @@ impl<'a> IncrementalFile<'a> {
 
     /// Bucket numbers are in range, all different and none is free; first rows
     /// rise from 0 to the row count.
-    fn check_index(&self, mut claimed: BucketSet, rows: u32) -> Result<(), Refusal> {
+    fn check_index(&self, mut claimed: BucketSet, rows: u64) -> Result<(), Refusal> {
         for number in self.numbers.iter() {
             self.buckets.claim(&mut claimed, number)?;
         }
@@ -63,30 +63,29 @@ impl<'a> IncrementalFile<'a> {
     /// A bucket's index: the first rows and the offsets of each column's
     /// values, of which `sizes` are judged.
     fn check_bucket(&self, entry: usize, sizes: &[u32]) -> Result<(), Refusal> {
-        let (offset, mut index) = self.bucket(entry)?;
+        let Bucket { offset, starts, mut index } = self.bucket(entry)?;
         if offset < DATA_START {
             return Err(WRONG_MAP);
         }
         let rows = self.first_row(entry + 1) - self.first_row(entry);
         for size in sizes {
-            check_values(&mut index, rows, *size, offset - DATA_START)?;
+            check_values(&mut index, starts, rows, *size, offset - DATA_START)?;
         }
         Ok(())
     }
 
-    /// The bucket of an entry of the index: the offset of its own index, and
-    /// what stands from there on.
-    fn bucket(&self, entry: usize) -> Result<(u32, Reader<'a>), Refusal> {
+    /// The bucket of an entry of the index. Its first number has the offset of
+    /// its own index in three bytes; the high byte tells the width of starts.
+    fn bucket(&self, entry: usize) -> Result<Bucket<'a>, Refusal> {
         let bucket = self.buckets.reader(self.numbers.at(entry) as usize);
-        let offset = bucket.clone().uint()?;
-        if offset >> 24 != 0 {
-            return Err(Refusal::at(WRONG_VERSION, bucket.at())); // row numbers of 64 bits
-        }
+        let number = bucket.clone().uint()?;
+        let starts = if number >> 24 == 0 { Width::UInt } else { Width::Int64 };
+        let offset = number & 0x00FF_FFFF;
         let index = bucket.after(offset as usize).ok_or(WRONG_MAP)?;
-        Ok((offset, index))
+        Ok(Bucket { offset, starts, index })
     }
 
-    fn first_row(&self, entry: usize) -> u32 {
+    fn first_row(&self, entry: usize) -> u64 {
         self.first_rows.at(entry)
     }
 
@@ -96,25 +95,35 @@ impl<'a> IncrementalFile<'a> {
 
     /// The first bit of a cell; the row is one of the table's, and the column
     /// is the manager's column number `column`.
-    pub fn first_bit(&self, column: usize, row: u32) -> u64 {
+    pub fn first_bit(&self, column: usize, row: u64) -> u64 {
         // The last bucket whose first row is not above the row.
         let entry = self.first_rows.partition_point(|first| first <= row) - 1;
         let local_row = row - self.first_row(entry);
         let offset = self.value_offset(entry, column, local_row).expect("the bucket was checked");
         let bucket = self.numbers.at(entry) as usize;
-        8 * (self.buckets.start(bucket) as u64 + u64::from(DATA_START) + u64::from(offset))
+        8 * (self.buckets.start(bucket) as u64 + u64::from(DATA_START) + offset)
     }
 
     /// The offset, in a bucket's data part, of the value that a row has.
-    fn value_offset(&self, entry: usize, column: usize, local_row: u32) -> Result<u32, Refusal> {
-        let (_, mut index) = self.bucket(entry)?;
+    fn value_offset(&self, entry: usize, column: usize, local_row: u64) -> Result<u64, Refusal> {
+        let Bucket { starts, mut index, .. } = self.bucket(entry)?;
         for _ in 0..column {
-            values(&mut index)?;
+            values(&mut index, starts)?;
         }
-        let (starts, offsets) = values(&mut index)?;
+        let (starts, offsets) = values(&mut index, starts)?;
         let value = starts.partition_point(|start| start <= local_row) - 1;
         Ok(offsets.at(value))
     }
+}
+
+/// A bucket in the index.
+struct Bucket<'a> {
+    /// Where its own index begins.
+    offset: u32,
+    /// The width of all its starts.
+    starts: Width,
+    /// What stands from there on.
+    index: Reader<'a>,
 }
 
 /// The bytes that a value takes at least: a cell's whole bytes, none of a
@@ -129,24 +138,32 @@ fn judged_size(column: &Column<'_>) -> u32 {
 /// ISMIndex: the first rows and the numbers of the buckets.
 fn read_index(mut container: Reader<'_>) -> Result<(Numbers<'_>, Numbers<'_>), Refusal> {
     container.expect_mark()?;
-    let (_, mut fields) = container.object(b"ISMIndex", &[1])?;
+    let (version, mut fields) = container.object(b"ISMIndex", &[1, 2])?;
+    let width = Width::of_rows(version);
     let count = u64::from(fields.uint()?);
-    let first_rows = fields.block(count + 1)?;
-    let numbers = fields.block(count)?;
+    let first_rows = fields.block(count + 1, width)?;
+    let numbers = fields.block(count, Width::UInt)?;
     fields.finish()?;
     Ok((first_rows, numbers))
 }
 
 /// A column's values in a bucket's index: the first row of each rises from 0
 /// and is below `rows`; each stands, with `size` bytes, in `data` bytes.
-fn check_values(index: &mut Reader<'_>, rows: u32, size: u32, data: u32) -> Result<(), Refusal> {
+fn check_values(
+    index: &mut Reader<'_>,
+    starts: Width,
+    rows: u64,
+    size: u32,
+    data: u32,
+) -> Result<(), Refusal> {
+    let rows = rows as i64; // at most 2^62
     let count = index.uint()?;
     if count == 0 {
         return Err(WRONG_MAP);
     }
     let mut least = 0;
     for value in 0..count {
-        let start = index.uint()?;
+        let start = index.number(starts)?;
         if start < least || start >= rows || (value == 0 && start > 0) {
             return Err(WRONG_MAP);
         }
@@ -162,7 +179,10 @@ fn check_values(index: &mut Reader<'_>, rows: u32, size: u32, data: u32) -> Resu
 }
 
 /// A column's values: their first rows and their offsets.
-fn values<'a>(index: &mut Reader<'a>) -> Result<(Numbers<'a>, Numbers<'a>), Refusal> {
+fn values<'a>(
+    index: &mut Reader<'a>,
+    starts: Width,
+) -> Result<(Numbers<'a>, Numbers<'a>), Refusal> {
     let count = index.uint()? as usize;
-    Ok((index.numbers(count)?, index.numbers(count)?))
+    Ok((index.numbers(count, starts)?, index.numbers(count, Width::UInt)?))
 }

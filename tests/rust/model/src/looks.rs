@@ -15,7 +15,7 @@ pub struct Search {
 /// row, keep up to it, else keep what follows."
 ///
 /// There is at least one entry, as in every set of a table with rows.
-pub fn search(entries: usize, mut last_row: impl FnMut(usize) -> u32, row: u32) -> Search {
+pub fn search(entries: usize, mut last_row: impl FnMut(usize) -> u64, row: u64) -> Search {
     let (mut first, mut last) = (0, entries - 1);
     let mut looks = 0;
     while first < last {
@@ -36,7 +36,7 @@ mod tests {
     use super::*;
 
     /// The entries that are looked at, in order, and where the search ends.
-    fn looked_at(last_rows: &[u32], row: u32) -> (Vec<usize>, usize) {
+    fn looked_at(last_rows: &[u64], row: u64) -> (Vec<usize>, usize) {
         let mut looked = Vec::new();
         let last_row = |entry: usize| {
             looked.push(entry);
@@ -48,7 +48,7 @@ mod tests {
     }
 
     /// The looks for a row of each entry, the same for its first and its last.
-    fn looks(last_rows: &[u32]) -> Vec<u64> {
+    fn looks(last_rows: &[u64]) -> Vec<u64> {
         let mut first_row = 0;
         let mut counts = Vec::new();
         for (entry, last) in last_rows.iter().enumerate() {
@@ -67,10 +67,10 @@ mod tests {
     }
 
     /// Last rows of entries that hold one row to six.
-    fn uneven(entries: usize) -> Vec<u32> {
+    fn uneven(entries: usize) -> Vec<u64> {
         let mut rows = 0;
         let last_row = |entry: usize| {
-            rows += 1 + (entry * entry + 3 * entry) as u32 % 7 % 6;
+            rows += 1 + (entry * entry + 3 * entry) as u64 % 7 % 6;
             rows - 1
         };
         (0..entries).map(last_row).collect()

@@ -22,7 +22,7 @@ pub fn written<const N: usize>(answer: Result<[u64; N], Refusal>) -> [u64; N] {
 pub fn description(table: &[u8]) -> Result<[u64; 5], Refusal> {
     let description = describe(table)?;
     Ok([
-        description.rows.into(),
+        description.rows,
         description.byte_order.is_big().into(),
         description.columns.len() as u64,
         description.managers.len() as u64,
@@ -46,8 +46,8 @@ pub fn column(table: &[u8], position: u64) -> Result<[u64; 12], Refusal> {
         column.string_maximum.into(),
         column.cell_bits.into(),
         column.manager.into(),
-        column.set.into(),
-        column.offset.into(),
+        column.set,
+        column.offset,
         NO_BYTE,
     ])
 }

@@ -273,8 +273,8 @@ impl Asked<'_> {
             data_type: column.data_type.number() as u64,
             elements: column.elements.into(),
             cell_bits: self.cell_bits(),
-            set: set.into(),
-            offset: offset.into(),
+            set,
+            offset,
             rows_per_bucket: rows_per_bucket.into(),
             bucket_size: self.file.bucket_size() as u64,
         }
@@ -288,10 +288,9 @@ impl Asked<'_> {
     }
 
     fn place(&self, row: u64) -> Result<Placed, Refusal> {
-        if row >= self.description.rows.into() {
+        if row >= self.description.rows {
             return Err(NO_ROW);
         }
-        let row = row as u32;
         let set = self.column.set;
         let (first_bit, looks, entries) = match &self.file {
             File::Standard(file) => {

@@ -3,7 +3,7 @@
 
 use crate::aipsio::Reader;
 use crate::buckets::{BucketSet, Buckets, HeaderStart, header};
-use crate::byte_order::{ByteOrder, Numbers};
+use crate::byte_order::{ByteOrder, Numbers, Width};
 use crate::looks;
 use crate::refusal::{OUT_OF_RANGE, Refusal, SHORT_ROOM, WRONG_CHAIN, WRONG_MAP};
 use crate::table::{Column, Description};
@@ -40,7 +40,7 @@ struct Index<'a> {
 
 impl Index<'_> {
     /// The first entry whose last row is not below the row.
-    fn entry(&self, row: u32) -> usize {
+    fn entry(&self, row: u64) -> usize {
         self.last_rows.partition_point(|last| last < row)
     }
 }
@@ -91,17 +91,17 @@ impl<'a> StandardFile<'a> {
 
     /// The last rows of each set rise to the table's last row, at most rows
     /// per bucket at a time.
-    fn check_rows(&self, rows: u32) -> Result<(), Refusal> {
+    fn check_rows(&self, rows: u64) -> Result<(), Refusal> {
         for index in &self.indices {
             let mut row = 0; // the next entry's first row
             for last in index.last_rows.iter() {
-                let next = u64::from(last) + 1;
+                let next = last + 1;
                 if next <= row || next - row > index.rows_per_bucket.into() {
                     return Err(WRONG_MAP);
                 }
                 row = next;
             }
-            if row != rows.into() {
+            if row != rows {
                 return Err(WRONG_MAP);
             }
         }
@@ -121,7 +121,7 @@ impl<'a> StandardFile<'a> {
             let index = self.indices.get(set).ok_or(WRONG_MAP)?;
             counts[set] += 1;
             let bits = u64::from(index.rows_per_bucket) * u64::from(column.cell_bits);
-            let start = u64::from(column.offset);
+            let start = column.offset;
             extents.push((set, start, start + bits.div_ceil(8)));
         }
         if self.indices.iter().zip(counts).any(|(index, count)| index.columns != count) {
@@ -139,18 +139,18 @@ impl<'a> StandardFile<'a> {
         self.buckets.size()
     }
 
-    pub fn rows_per_bucket(&self, set: u32) -> u32 {
+    pub fn rows_per_bucket(&self, set: u64) -> u32 {
         self.indices[set as usize].rows_per_bucket
     }
 
     /// How many entries a set has.
-    pub fn entries(&self, set: u32) -> u64 {
+    pub fn entries(&self, set: u64) -> u64 {
         self.indices[set as usize].last_rows.count() as u64
     }
 
     /// How many last rows of a set the search for a row looks at; the row is
     /// one of the table's.
-    pub fn looks(&self, set: u32, row: u32) -> u64 {
+    pub fn looks(&self, set: u64, row: u64) -> u64 {
         let index = self.indices[set as usize];
         let search = looks::search(index.last_rows.count(), |entry| index.last_rows.at(entry), row);
         debug_assert_eq!(search.entry, index.entry(row));
@@ -158,7 +158,7 @@ impl<'a> StandardFile<'a> {
     }
 
     /// The first bit of a cell; the row is one of the table's.
-    pub fn first_bit(&self, column: &Column<'_>, row: u32) -> u64 {
+    pub fn first_bit(&self, column: &Column<'_>, row: u64) -> u64 {
         let index = self.indices[column.set as usize];
         let entry = index.entry(row);
         let first_row = match entry.checked_sub(1) {
@@ -166,13 +166,13 @@ impl<'a> StandardFile<'a> {
             None => 0,
         };
         let bucket = index.buckets.at(entry) as usize;
-        let extent = self.buckets.start(bucket) as u64 + u64::from(column.offset);
-        8 * extent + u64::from(row - first_row) * u64::from(column.cell_bits)
+        let extent = self.buckets.start(bucket) as u64 + column.offset;
+        8 * extent + (row - first_row) * u64::from(column.cell_bits)
     }
 }
 
 fn read_header(file: &[u8], order: ByteOrder) -> Result<Header, Refusal> {
-    let (start, mut fields) = header(file, b"StandardStMan", 3, order)?;
+    let (start, mut fields) = header(file, b"StandardStMan", &[3, 4], order)?;
     let free_count = fields.uint()?;
     let first_free = fields.int()?;
     let index_buckets = fields.uint()?;
@@ -249,13 +249,14 @@ fn read_indices(text: &[u8], count: usize, order: ByteOrder) -> Result<Vec<Index
 
 fn read_index<'a>(text: &mut Reader<'a>) -> Result<Index<'a>, Refusal> {
     text.expect_mark()?;
-    let (_, mut fields) = text.object(b"SSMIndex", &[1])?;
+    let (version, mut fields) = text.object(b"SSMIndex", &[1, 2])?;
+    let width = Width::of_rows(version);
     let entries = fields.uint()?;
     let rows_per_bucket = fields.uint_within(1..=MAX_ROWS_PER_BUCKET)?;
     let columns = fields.int()?;
     pass_free_space(&mut fields)?;
-    let last_rows = fields.block(entries.into())?;
-    let buckets = fields.block(entries.into())?;
+    let last_rows = fields.block(entries.into(), width)?;
+    let buckets = fields.block(entries.into(), Width::UInt)?;
     fields.finish()?;
     Ok(Index { rows_per_bucket, columns, last_rows, buckets })
 }

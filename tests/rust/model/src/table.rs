@@ -2,14 +2,14 @@
 //! Note 260, section 3.1.
 
 use crate::aipsio::Reader;
-use crate::byte_order::{ByteOrder, Numbers};
+use crate::byte_order::{ByteOrder, Numbers, Width};
 use crate::data_type::DataType;
 use crate::refusal::{DISAGREES, DOES_NOT_FIT, NO_SUCH, OUT_OF_RANGE, Refusal, WRONG_VERSION};
 use std::ops::RangeInclusive;
 
 // RULES.md 8.2, Ranges.
 const MAX_FILE: usize = 65_536;
-const MAX_ROWS: u32 = 2_147_483_647;
+const ROWS: RangeInclusive<i64> = 0..=1 << 62;
 const MAX_COLUMNS: u32 = 64;
 const MAX_MANAGERS: u32 = 16;
 const COLUMN_NAME: RangeInclusive<usize> = 1..=64;
@@ -24,7 +24,8 @@ const FIXED_SHAPE: i32 = 4;
 /// What `table.dat` says of a table.
 #[derive(Clone, Debug, PartialEq, Eq)]
 pub struct Description<'a> {
-    pub rows: u32,
+    /// ColumnSet's.
+    pub rows: u64,
     /// Of the cells, and of the headers and indices of the managers' files.
     pub byte_order: ByteOrder,
     /// In stored order.
@@ -56,9 +57,9 @@ pub struct Column<'a> {
     pub manager: u32,
     /// From the DMInfo of StandardStMan and IncrementalStMan, if it has set
     /// numbers and offsets; 0 otherwise.
-    pub set: u32,
+    pub set: u64,
     /// As the set.
-    pub offset: u32,
+    pub offset: u64,
 }
 
 #[derive(Clone, Debug, PartialEq, Eq)]
@@ -95,7 +96,7 @@ pub fn describe(table: &[u8]) -> Result<Description<'_>, Refusal> {
     let mut file = Reader::new(table, 0, ByteOrder::Big); // in every table
     file.expect_mark()?;
     let (_, mut fields) = file.object(b"Table", &[2])?;
-    let rows = fields.uint_up_to(MAX_ROWS)?;
+    let header_rows = fields.uint()?;
     let byte_order = fields.meaning(Reader::uint, DOES_NOT_FIT, |number| match number {
         0 => Some(ByteOrder::Little),
         1 => Some(ByteOrder::Big),
@@ -103,7 +104,7 @@ pub fn describe(table: &[u8]) -> Result<Description<'_>, Refusal> {
     })?;
     fields.expect_name(b"PlainTable")?;
     let mut columns = table_desc(&mut fields)?;
-    let managers = column_set(&mut fields, rows, &mut columns)?;
+    let (rows, managers) = column_set(&mut fields, header_rows, &mut columns)?;
     fields.finish()?;
     Ok(Description { rows, byte_order, columns, managers })
 }
@@ -258,15 +259,18 @@ fn any_shape(container: &mut Reader<'_>) -> Result<(), Refusal> {
     fields.finish()
 }
 
-/// ColumnSet: the managers. Binds the columns to them.
+/// ColumnSet: the row count and the managers. Binds the columns to them.
 fn column_set<'a>(
     fields: &mut Reader<'a>,
-    rows: u32,
+    header_rows: u32,
     columns: &mut [Column<'a>],
-) -> Result<Vec<Manager<'a>>, Refusal> {
-    fields.judged(Reader::int, WRONG_VERSION, |version| *version == -2)?;
-    let in_range = |fields: &mut Reader<'a>| fields.uint_up_to(MAX_ROWS);
-    fields.judged(in_range, DISAGREES, |stated| *stated == rows)?;
+) -> Result<(u64, Vec<Manager<'a>>), Refusal> {
+    let width = fields.meaning(Reader::int, WRONG_VERSION, |version| match version {
+        -2 => Some(Width::UInt),
+        -3 => Some(Width::Int64),
+        _ => None,
+    })?;
+    let rows = row_count(fields, width, header_rows)?;
     let highest = fields.uint()?;
     let count = fields.count(MAX_MANAGERS)?;
     let mut managers: Vec<Manager> = Vec::with_capacity(count);
@@ -283,7 +287,16 @@ fn column_set<'a>(
     for manager in &managers {
         manager_info(fields, manager, columns)?;
     }
-    Ok(managers)
+    Ok((rows, managers))
+}
+
+/// The row count. A uInt is compared with the count in Table's header.
+fn row_count(fields: &mut Reader<'_>, width: Width, header_rows: u32) -> Result<u64, Refusal> {
+    let in_range = |fields: &mut Reader<'_>| {
+        fields.judged(|fields| fields.number(width), OUT_OF_RANGE, |rows| ROWS.contains(rows))
+    };
+    let agrees = |rows: &i64| width == Width::Int64 || *rows == i64::from(header_rows);
+    Ok(fields.judged(in_range, DISAGREES, agrees)? as u64)
 }
 
 /// ColumnInfo: the column's manager.
@@ -335,7 +348,7 @@ fn bare_info<'a>(
     if info.left() != 8 * bound {
         return Err(info.wrong_length());
     }
-    Ok((info.numbers(bound)?, info.numbers(bound)?))
+    Ok((info.numbers(bound, Width::UInt)?, info.numbers(bound, Width::UInt)?))
 }
 
 /// A DMInfo of StandardStMan with the mark: the manager's name, the offsets of
@@ -344,8 +357,8 @@ fn ssm_info<'a>(mut info: Reader<'a>, bound: usize) -> Result<(Numbers<'a>, Numb
     info.expect_mark()?;
     let (_, mut fields) = info.object(b"SSM", &[2])?;
     fields.string()?; // not judged
-    let offsets = fields.block(bound as u64)?;
-    let sets = fields.block(bound as u64)?;
+    let offsets = fields.block(bound as u64, Width::UInt)?;
+    let sets = fields.block(bound as u64, Width::UInt)?;
     fields.finish()?;
     info.finish()?;
     Ok((sets, offsets))

@@ -59,10 +59,10 @@ fn of_table() {
             (8, 4, 2, 8),
             (8, 4000, 1, 8),
             (17, 3, 3, 17),
-            (21, 1 << 31, 4, 21), // rows
-            (21, 8, 6, 694),      // not those of ColumnSet
-            (25, 2, 5, 25),       // endianness
-            (29, 9, 2, 29),       // table type
+            (21, 8, 6, 694), // rows: not those of ColumnSet
+            (21, 1 << 31, 6, 694),
+            (25, 2, 5, 25), // endianness
+            (29, 9, 2, 29), // table type
             // TableDesc. The last default value crosses its end.
             (43, 5000, 1, 43),
             (43, 20, 7, 43),
@@ -162,8 +162,11 @@ fn of_column_set() {
     assert_changes(
         &small_table(),
         &[
-            (690, 2, 3, 690),       // version
-            (694, 1 << 31, 4, 694), // rows
+            (690, 2, 3, 690), // version
+            (690, 0, 3, 690),
+            (690, u32::MAX, 3, 690),
+            (690, u32::MAX - 3, 3, 690),
+            (694, 1 << 31, 6, 694), // rows
             (694, 6, 6, 694),
             (702, 0, 4, 702), // managers
             (702, 17, 4, 702),
@@ -350,6 +353,7 @@ fn of_a_header() {
             (8, 12, 2, 8),
             (8, 501, 1, 8),
             (25, 2, 3, 25),
+            (25, 5, 3, 25),
             (30, 15, 4, 30),   // bucket size
             (34, 4097, 4, 34), // buckets
             (34, 6, 1, 832),   // one more than the file has
@@ -399,7 +403,9 @@ fn of_index_text() {
             (4, 19, 7, 4),
             (4, 129, 1, 105),
             (8, 7, 2, 8),
-            (20, 2, 3, 20),
+            (20, 0, 3, 20),
+            (20, 3, 3, 20),
+            (20, 2, 1, 105), // last rows of eight bytes
             (24, 3, 6, 93),  // entries that are not those of the first Block
             (28, 0, 4, 28),  // rows per bucket
             (32, 4, 11, 0),  // columns
@@ -458,6 +464,7 @@ fn of_an_incremental_file() {
             (4, 54, 7, 4),
             (8, 15, 2, 8),
             (28, 4, 3, 28),
+            (28, 6, 3, 28),
             (33, 15, 4, 33),   // bucket size
             (37, 4097, 4, 37), // buckets
             (37, 8, 1, 642),
@@ -467,7 +474,9 @@ fn of_an_incremental_file() {
             (556, 87, 1, 556),
             (556, 85, 1, 613),
             (560, 7, 2, 560),
-            (572, 2, 3, 572),
+            (572, 0, 3, 572),
+            (572, 3, 3, 572),
+            (572, 2, 1, 609), // first rows of eight bytes
             (576, 3, 6, 597),
             (580, 32, 1, 609), // first rows
             (580, 34, 7, 580),
@@ -482,8 +491,12 @@ fn of_an_incremental_file() {
             (634, 2, 11, 0),
             // The buckets: the offset of the index, and a number of values
             // that stands at it.
-            (512, 0x0100_0008, 3, 512),
-            (532, 0x0100_0008, 3, 532),
+            // With a high byte the start and the offset are one number, and
+            // the offset is not there.
+            (512, 0x0100_0008, 1, 532),
+            (532, 0xFF00_0008, 1, 552),
+            (512, 0x0100_0003, 11, 0),
+            (512, 0x0100_0015, 11, 0),
             (512, 7, 11, 0),
             (512, 21, 11, 0),
             (512, 17, 1, 529),

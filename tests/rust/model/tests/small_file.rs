@@ -144,10 +144,13 @@ fn is_refused_after_changes() {
     assert(b"<Int     ", b"<Int    >", 5, 190);
     assert(b"<double  ", b"<Double  ", 5, 521);
     // ColumnSet's version, then its row count.
-    assert(&[255, 255, 255, 254], &[255, 255, 255, 253], 3, 690);
+    assert(&[255, 255, 255, 254], &[255, 255, 255, 252], 3, 690);
     let rows = [255, 255, 255, 254, 0, 0, 0, 7];
     assert(&rows, &[255, 255, 255, 254, 0, 0, 0, 8], 6, 694);
-    assert(&rows, &[255, 255, 255, 254, 128, 0, 0, 7], 4, 694);
+    assert(&rows, &[255, 255, 255, 254, 128, 0, 0, 7], 6, 694);
+    // Of eight bytes: with the next field; then a manager's name is too long.
+    assert(&rows, &[255, 255, 255, 253, 128, 0, 0, 7], 4, 694);
+    assert(&rows, &[255, 255, 255, 253, 0, 0, 0, 7], 1, 710);
 }
 
 #[test]

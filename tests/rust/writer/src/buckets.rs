@@ -45,7 +45,7 @@ pub trait BucketFile: Clone {
     /// Where a byte of that run stands in the file.
     fn place_of(&self, part: Part, byte: usize) -> usize;
     /// Rows at both sides of each border between buckets or values.
-    fn border_rows(&self) -> Vec<u32>;
+    fn border_rows(&self) -> Vec<u64>;
     /// The index text, or the ISMIndex and the bytes after it.
     fn index_layout(&self) -> Layout;
     /// The headers of the index's objects, in file order.
@@ -57,10 +57,10 @@ pub trait BucketFile: Clone {
     /// The plan of a column, as if it were one of the manager's.
     fn plan(&self, table: &Table, position: usize) -> [u64; 9];
     /// The first bit and bit count of a cell of one of the manager's columns.
-    fn place(&self, table: &Table, position: usize, row: u32) -> (u64, u64);
+    fn place(&self, table: &Table, position: usize, row: u64) -> (u64, u64);
     /// How many last rows the search for that cell looks at, and how many
     /// entries there are to look at; none in IncrementalStMan.
-    fn looks(&self, table: &Table, position: usize, row: u32) -> [u64; 2];
+    fn looks(&self, table: &Table, position: usize, row: u64) -> [u64; 2];
 
     /// Where what a refusal blames begins.
     fn byte(&self, blame: Blame) -> usize {
@@ -76,20 +76,31 @@ pub trait BucketFile: Clone {
     }
 }
 
-/// A Block of numbers.
+/// A Block of uInts, or of row numbers (u64), of which a negative one is that of
+/// the same bits.
 #[derive(Clone, Debug)]
-pub struct Block {
+pub struct Block<T = u32> {
     pub header: Header,
     /// The count, if it is stated other than it is.
     pub count: Option<u32>,
-    pub elements: Vec<u32>,
+    pub elements: Vec<T>,
+    /// Whether they are written as Int64 or uInt.
+    pub wide: bool,
     /// Their byte order, if it is other than the count's.
     pub elements_order: Option<Order>,
 }
 
-impl Block {
-    pub fn new(elements: Vec<u32>) -> Self {
-        Self { header: Header::new("Block", 1), count: None, elements, elements_order: None }
+impl<T: Copy + Into<u64>> Block<T> {
+    /// Of uInts, unless one of them is too large.
+    pub fn new(elements: Vec<T>) -> Self {
+        let header = Header::new("Block", 1);
+        let wide = elements.iter().any(|element| (*element).into() > u32::MAX.into());
+        Self { header, count: None, elements, wide, elements_order: None }
+    }
+
+    /// The bytes of an element.
+    pub fn width(&self) -> usize {
+        if self.wide { 8 } else { 4 }
     }
 
     pub fn encode(&self, part: Part, out: &mut Encoder) {
@@ -97,7 +108,7 @@ impl Block {
             out.uint("count", self.count.unwrap_or(self.elements.len() as u32));
             out.in_order(self.elements_order.unwrap_or(out.order()), |out| {
                 for (number, element) in self.elements.iter().enumerate() {
-                    out.nth_uint("element", number, *element);
+                    out.nth_number("element", number, (*element).into(), self.wide);
                 }
             });
         });

@@ -66,6 +66,14 @@ impl Encoder {
         self.nth(name, number, &self.order.number(value));
     }
 
+    /// The same, of 8 bytes if it is wide.
+    pub fn nth_number(&mut self, name: &'static str, number: usize, value: u64, wide: bool) {
+        match wide {
+            true => self.nth(name, number, &self.order.turn(value.to_be_bytes())),
+            false => self.nth_uint(name, number, value as u32),
+        }
+    }
+
     pub fn uint(&mut self, name: &'static str, number: u32) {
         self.nth_uint(name, 0, number);
     }
@@ -132,11 +140,7 @@ impl Encoder {
         self.object(part, &shape.header, |out| {
             out.uint("count", shape.count.unwrap_or(shape.axes.len() as u32));
             for (number, axis) in shape.axes.iter().enumerate() {
-                if shape.wide {
-                    out.nth("axis", number, &out.order.turn(axis.to_be_bytes()));
-                } else {
-                    out.nth_uint("axis", number, *axis as u32);
-                }
+                out.nth_number("axis", number, *axis as u64, shape.wide);
             }
         });
     }
@@ -189,7 +193,7 @@ impl Encoder {
     fn column_set(&mut self, table: &Table) {
         let set = &table.column_set;
         self.int("version", set.version);
-        self.uint("rows", set.rows);
+        self.nth_number("rows", 0, set.rows, set.wide);
         self.uint("highest", set.highest);
         self.uint("manager count", set.manager_count.unwrap_or(set.managers.len() as u32));
         for (index, manager) in set.managers.iter().enumerate() {
@@ -226,7 +230,7 @@ impl Encoder {
     fn table(&mut self, table: &Table) {
         self.of(Part::Table, |out| out.field("mark", &table.mark));
         self.object(Part::Table, &table.header, |out| {
-            out.uint("rows", table.rows);
+            out.uint("rows", table.header_rows);
             out.uint("endianness", table.endianness);
             out.text("table type", &table.table_type);
             out.table_desc(table);

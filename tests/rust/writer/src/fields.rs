@@ -34,6 +34,7 @@ pub fn changes(layout: &Layout) -> Vec<Change> {
         let mut values = match old {
             _ if field.is_text => texts(layout, field),
             [_, _, _, _] => numbers(layout, field),
+            [_, _, _, _, _, _, _, _] => wide_numbers(layout, field),
             _ => [0, 1, 2, 0xFF].map(|byte| vec![byte; old.len()]).into(),
         };
         values.sort_unstable();
@@ -59,6 +60,18 @@ fn numbers(layout: &Layout, field: &Field) -> Vec<Vec<u8>> {
         numbers.extend([own.wrapping_add(4), own.wrapping_sub(4)]);
     }
     numbers.into_iter().map(|number| layout.order.number(number).into()).collect()
+}
+
+/// The same of 8 bytes: also at the limits of uInt and of the row range, and
+/// beside the own number in the high half.
+fn wide_numbers(layout: &Layout, field: &Field) -> Vec<Vec<u8>> {
+    let old = &layout.bytes[field.start..field.end];
+    let own = u64::from_be_bytes(layout.order.turn(old.try_into().expect("eight bytes")));
+    let signs = [u64::MAX, 1 << 63, own ^ 1 << 63];
+    let limits = [0, 1, 2, 1 << 32, 1 << 62, (1 << 62) + 1, (1 << 63) - 1];
+    let near = [own.wrapping_add(1), own.wrapping_sub(1), own ^ 1 << 32, own & 0xFFFF_FFFF];
+    let numbers = [&signs[..], &limits, &near].concat();
+    numbers.into_iter().map(|number| layout.order.turn(number.to_be_bytes()).into()).collect()
 }
 
 /// Other lengths, and another first letter.
@@ -109,7 +122,8 @@ pub fn lines() -> impl Iterator<Item = String> + Send {
     let little = (samples::little(), Asked::new(&samples::little_file()));
     let arrays = (samples::arrays(), Asked::new(&samples::arrays_incremental()));
     let objects = (samples::arrays_with_objects(), arrays.1.clone());
-    let whole = [small, arrays].into_iter().flat_map(|(table, asked)| {
+    let survey = (samples::survey(), Asked::new(&samples::survey_file()));
+    let whole = [small, arrays, survey].into_iter().flat_map(|(table, asked)| {
         let layout = table.layout();
         let changed = |change: Change| change.of(&layout.bytes, |index| index);
         table_lines(changes(&layout).into_iter().map(changed), &asked)

@@ -65,12 +65,14 @@ pub fn table_of(rng: &mut Rng, columns: usize, managers: usize) -> Table {
     let highest = managers.iter().map(|manager| manager.number).max().unwrap_or(0);
     let rows = match rng.below(8) {
         0 => 0,
-        1 => 2_147_483_647,
-        2 => rng.uint() >> 1,
-        _ => rng.below(5000) as u32,
+        1 => rng.pick(&ROW_LIMITS),
+        2 => rng.uint().into(),
+        3 => rng.number() >> rng.within(2..=40),
+        _ => rng.below(5000) as u64,
     };
     let endianness = rng.below(2) as u32;
     let mut table = Table::new(rows, endianness, described, managers);
+    rows_form(rng, &mut table);
     table.column_set.highest = match rng.below(4) {
         0 => highest,
         1 => u32::MAX,
@@ -86,6 +88,35 @@ pub fn table_of(rng: &mut Rng, columns: usize, managers: usize) -> Table {
         table.trailing = rng.bytes(count);
     }
     table
+}
+
+/// Row counts at limits: of Int, of uInt, and of the row range.
+pub const ROW_LIMITS: [u64; 9] = [
+    0x7FFF_FFFF,
+    0x8000_0000,
+    0xFFFF_FFFF,
+    1 << 32,
+    (1 << 32) + 1,
+    1 << 33,
+    1 << 40,
+    (1 << 62) - 1,
+    1 << 62,
+];
+
+/// With ColumnSet -2 or -3; with -3 the count in Table's header is often
+/// another one.
+pub fn rows_form(rng: &mut Rng, table: &mut Table) {
+    if !table.column_set.wide && rng.chance(1, 2) {
+        return;
+    }
+    let rows = table.rows() as u32;
+    let header_rows = match rng.below(4) {
+        0 => rows,
+        1 => 0,
+        2 => rows ^ 1 << rng.below(32),
+        _ => rng.uint(),
+    };
+    table.widen(header_rows);
 }
 
 /// Managers with different numbers below 4 billion.

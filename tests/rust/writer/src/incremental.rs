@@ -31,13 +31,25 @@ pub struct Index {
     pub header: Header,
     /// The number of buckets, if it is stated other than it is.
     pub count: Option<u32>,
-    pub first_rows: Block,
+    pub first_rows: Block<u64>,
     pub buckets: Block,
+}
+
+impl Index {
+    /// Version 2, with Int64 first rows.
+    pub fn widen(&mut self) {
+        self.header.version = 2;
+        self.first_rows.wide = true;
+    }
 }
 
 #[derive(Clone, Debug)]
 pub struct DataBucket {
     pub number: u32,
+    /// The high byte of the bucket's first number: above 0 with Int64 starts.
+    pub high: u8,
+    /// Whether all starts are written as Int64 or uInt.
+    pub wide: bool,
     /// The offset of the bucket's index, if it is stated other than it is.
     pub index_offset: Option<u32>,
     pub data: Vec<u8>,
@@ -46,10 +58,40 @@ pub struct DataBucket {
 }
 
 impl DataBucket {
+    /// With uInt starts.
+    pub fn new(number: u32, data: Vec<u8>, columns: Vec<Values>) -> Self {
+        Self { number, high: 0, wide: false, index_offset: None, data, columns }
+    }
+
+    /// With Int64 starts, which this high byte tells.
+    pub fn widen(&mut self, high: u8) {
+        self.high = high;
+        self.wide = true;
+    }
+
+    /// The bytes of a start.
+    pub fn width(&self) -> usize {
+        if self.wide { 8 } else { 4 }
+    }
+
+    /// The offset of its index, without the high byte.
+    pub fn index_offset(&self) -> u32 {
+        self.index_offset.unwrap_or(DATA_START + self.data.len() as u32)
+    }
+
+    /// The bytes that the index takes up to a column's values.
+    pub fn index_before(&self, column: usize) -> usize {
+        self.columns[..column].iter().map(|values| values.length(self.width())).sum()
+    }
+
+    /// The bytes that the whole index takes.
+    pub fn index_length(&self) -> usize {
+        self.index_before(self.columns.len())
+    }
+
     /// The bytes that the offset, the data and the index take.
     pub fn length(&self) -> usize {
-        let index: usize = self.columns.iter().map(Values::length).sum();
-        DATA_START as usize + self.data.len() + index
+        DATA_START as usize + self.data.len() + self.index_length()
     }
 }
 
@@ -58,21 +100,26 @@ impl DataBucket {
 pub struct Values {
     /// The number of values, if it is stated other than it is.
     pub count: Option<u32>,
-    /// The first row of each, counted in the bucket.
-    pub starts: Vec<u32>,
+    /// The first row of each, counted in the bucket; a negative one is that of
+    /// the same bits.
+    pub starts: Vec<u64>,
     /// Where each stands in the data part.
     pub offsets: Vec<u32>,
 }
 
 impl Values {
-    fn length(&self) -> usize {
-        4 + 4 * self.starts.len() + 4 * self.offsets.len()
+    pub fn new(starts: Vec<u64>, offsets: Vec<u32>) -> Self {
+        Self { count: None, starts, offsets }
     }
 
-    fn encode(&self, out: &mut Encoder) {
+    fn length(&self, start: usize) -> usize {
+        4 + start * self.starts.len() + 4 * self.offsets.len()
+    }
+
+    fn encode(&self, wide: bool, out: &mut Encoder) {
         out.uint("count", self.count.unwrap_or(self.starts.len() as u32));
         for (number, start) in self.starts.iter().enumerate() {
-            out.nth_uint("start", number, *start);
+            out.nth_number("start", number, *start, wide);
         }
         for (number, offset) in self.offsets.iter().enumerate() {
             out.nth_uint("offset", number, *offset);
@@ -82,14 +129,16 @@ impl Values {
 
 impl IncrementalFile {
     /// A file whose data buckets hold the rows from each first row to the next;
-    /// the last of these is the row count.
-    pub fn new(buckets: Buckets, first_rows: Vec<u32>, data: Vec<DataBucket>) -> Self {
+    /// the last of these is the row count. With ISMIndex 1, unless there are too
+    /// many rows.
+    pub fn new(buckets: Buckets, first_rows: Vec<u64>, data: Vec<DataBucket>) -> Self {
         let order = buckets.order;
+        let first_rows = Block::new(first_rows);
         let index = Index {
             mark: [0xBE; 4],
-            header: Header::new("ISMIndex", 1),
+            header: Header::new("ISMIndex", if first_rows.wide { 2 } else { 1 }),
             count: None,
-            first_rows: Block::new(first_rows),
+            first_rows,
             buckets: Block::new(data.iter().map(|bucket| bucket.number).collect()),
         };
         Self { buckets, unique_column: 0, index, data, order }
@@ -98,12 +147,12 @@ impl IncrementalFile {
     /// The bucket of an entry; its index may pass the bucket's end.
     pub fn bucket(&self, entry: usize) -> Layout {
         let bucket = &self.data[entry];
-        let offset = bucket.index_offset.unwrap_or(DATA_START + bucket.data.len() as u32);
+        let number = u32::from(bucket.high) << 24 | bucket.index_offset();
         let mut out = Encoder::new(self.order);
-        out.of(Part::Bucket(entry), |out| out.uint("index offset", offset));
+        out.of(Part::Bucket(entry), |out| out.uint("index offset", number));
         out.raw(&bucket.data);
         for (column, values) in bucket.columns.iter().enumerate() {
-            out.of(Part::Values(entry, column), |out| values.encode(out));
+            out.of(Part::Values(entry, column), |out| values.encode(bucket.wide, out));
         }
         out.layout()
     }
@@ -152,13 +201,13 @@ impl BucketFile for IncrementalFile {
         }
     }
 
-    fn border_rows(&self) -> Vec<u32> {
+    fn border_rows(&self) -> Vec<u64> {
         let mut rows = Vec::new();
         for (bucket, first) in self.data.iter().zip(&self.index.first_rows.elements) {
             let starts = bucket.columns.iter().flat_map(|values| &values.starts);
             rows.extend(starts.map(|start| first.saturating_add(*start)));
         }
-        let before: Vec<u32> = rows.iter().map(|row| row.saturating_sub(1)).collect();
+        let before: Vec<u64> = rows.iter().map(|row| row.saturating_sub(1)).collect();
         rows.extend(before);
         rows
     }
@@ -204,7 +253,7 @@ impl BucketFile for IncrementalFile {
         ]
     }
 
-    fn place(&self, table: &Table, position: usize, row: u32) -> (u64, u64) {
+    fn place(&self, table: &Table, position: usize, row: u64) -> (u64, u64) {
         let column = &table.columns()[position];
         let manager = column.info.manager;
         let earlier = &table.columns()[..position];
@@ -222,7 +271,7 @@ impl BucketFile for IncrementalFile {
         (8 * byte, 8 * cells::extent(column, 1))
     }
 
-    fn looks(&self, _: &Table, _: usize, _: u32) -> [u64; 2] {
+    fn looks(&self, _: &Table, _: usize, _: u64) -> [u64; 2] {
         [0; 2]
     }
 }

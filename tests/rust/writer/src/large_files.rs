@@ -1,6 +1,7 @@
 //! Files at the limits of the Ranges (RULES.md 8.2): 4,096 buckets, an index text of
-//! 65,536 bytes, 64 columns, 16 sets, buckets of 1,048,576 bytes; and files with
-//! all of these buckets, which have more than 4 GiB.
+//! 65,536 bytes, 64 columns, 16 sets, buckets of 1,048,576 bytes; files with all
+//! of these buckets, which have more than 4 GiB; and more rows than 32 bits can
+//! count.
 
 use crate::buckets::{Buckets, Subject};
 use crate::cells;
@@ -40,7 +41,7 @@ pub fn case(rng: &mut Rng, number: u64) -> Asked {
 /// StandardStMan: 4,096 buckets of 72 bytes, of which 1,024 hold the index
 /// text's 65,536 bytes; 64 columns in 16 sets.
 pub fn standard(rng: &mut Rng) -> Subject<StandardFile> {
-    let rows = rng.within(400..=500) as u32;
+    let rows = rng.within(400..=500) as u64;
     let endianness = rng.below(2) as u32;
     let mut columns = Vec::new();
     let mut indices = Vec::new();
@@ -53,7 +54,7 @@ pub fn standard(rng: &mut Rng) -> Subject<StandardFile> {
             offset += cells::extent(&column, rows_per_bucket) as u32;
             columns.push(column);
         }
-        let parts = lean::parts(rng, rows, rows_per_bucket);
+        let parts = lean::parts(rng, rows, rows_per_bucket.into());
         indices.push(Index::new(rows_per_bucket, 4, &standard::generate::entries(&parts)));
     }
     rng.shuffle(&mut columns);
@@ -103,18 +104,17 @@ pub fn incremental(rng: &mut Rng) -> Subject<IncrementalFile> {
     let mut first_rows = vec![0];
     let mut data = Vec::new();
     for number in numbers {
-        let rows = rng.within(1..=3) as u32;
+        let rows = rng.within(1..=3) as u64;
         first_rows.push(first_rows[data.len()] + rows);
         let count = rng.within(1..=rows as usize) as u32;
-        let values = |start: u32, size: u32| Values {
-            count: None,
-            starts: (0..count).collect(),
-            offsets: (0..count).map(|value| start + size * value).collect(),
+        let values = |start: u32, size: u32| {
+            let offsets = (0..count).map(|value| start + size * value);
+            Values::new((0..count.into()).collect(), offsets.collect())
         };
         // Four bytes of an Int, two of 9 Bools.
         let columns = vec![values(0, 4), values(4 * count, 2)];
         let data_part = rng.bytes(6 * count as usize);
-        data.push(DataBucket { number, index_offset: None, data: data_part, columns });
+        data.push(DataBucket::new(number, data_part, columns));
     }
     let rows = first_rows[data.len()];
     let manager = generate::info_form(rng, Manager::new("IncrementalStMan", 0));
@@ -135,7 +135,7 @@ pub fn large_bucket(rng: &mut Rng, variant: u64) -> Subject<StandardFile> {
     let manager = generate::info_form(rng, Manager::new("StandardStMan", 0));
     let endianness = rng.below(2) as u32;
     let table = lean::bare(rows, endianness, columns, vec![manager]);
-    let entries: &[(u32, u32)] = if rows > 0 { &[(rows - 1, 0)] } else { &[] };
+    let entries: &[(u64, u32)] = if rows > 0 { &[(rows - 1, 0)] } else { &[] };
     let count = if rows > 0 { 2 } else { 1 };
     let buckets = Buckets::new("StandardStMan", 3, endianness, LARGEST, count);
     let indices = vec![Index::new(8_388_608, 1, entries)];
@@ -150,7 +150,7 @@ pub fn large_bucket(rng: &mut Rng, variant: u64) -> Subject<StandardFile> {
 /// row to 100 of a bucket's 100.
 pub fn most_entries(endianness: u32) -> Subject<StandardFile> {
     let rows_per_bucket = 100;
-    let parts: Vec<u32> = (1..BUCKETS).map(|entry| 1 + entry * entry % 101 % 100).collect();
+    let parts: Vec<u64> = (1..BUCKETS.into()).map(|entry| 1 + entry * entry % 101 % 100).collect();
     let rows = parts.iter().sum();
     let mut columns = Vec::new();
     let mut offset = 0;
@@ -178,7 +178,7 @@ const INDEX_BUCKET: u32 = 1;
 /// The bytes that are not zero are few.
 pub fn standard_above_4_gib(endianness: u32) -> Subject<StandardFile> {
     let rows_per_bucket = 4;
-    let rows = rows_per_bucket * SPREAD.len() as u32 - 1;
+    let rows = u64::from(rows_per_bucket) * SPREAD.len() as u64 - 1;
     let mut columns = vec![
         Column::scalar(INT, ""),
         Column::direct(BOOL, "", &[11]),
@@ -195,9 +195,9 @@ pub fn standard_above_4_gib(endianness: u32) -> Subject<StandardFile> {
     }
     columns.push(Column::scalar(UCHAR, "").at(0, 0));
     let table = lean::bare(rows, endianness, columns, vec![manager_3("StandardStMan", endianness)]);
-    let entries: Vec<(u32, u32)> = (1..)
+    let entries: Vec<(u64, u32)> = (1..)
         .zip(SPREAD)
-        .map(|(count, bucket)| ((rows_per_bucket * count).min(rows) - 1, bucket))
+        .map(|(count, bucket)| ((u64::from(rows_per_bucket) * count).min(rows) - 1, bucket))
         .collect();
     let index = Index::new(rows_per_bucket, table.columns().len(), &entries);
     let buckets = Buckets::new("StandardStMan", 3, endianness, LARGEST, BUCKETS);
@@ -209,14 +209,48 @@ pub fn standard_above_4_gib(endianness: u32) -> Subject<StandardFile> {
 /// have, in the last bucket and others.
 pub fn bools_above_4_gib(endianness: u32) -> Subject<StandardFile> {
     let rows_per_bucket = 8 * LARGEST;
-    let rows = rows_per_bucket * SPREAD.len() as u32;
+    let rows = u64::from(rows_per_bucket) * SPREAD.len() as u64;
     let columns = vec![Column::scalar(BOOL, "")];
     let table = lean::bare(rows, endianness, columns, vec![manager_3("StandardStMan", endianness)]);
-    let entries: Vec<(u32, u32)> =
-        (1..).zip(SPREAD).map(|(count, bucket)| (rows_per_bucket * count - 1, bucket)).collect();
+    let entries: Vec<(u64, u32)> = (1..)
+        .zip(SPREAD)
+        .map(|(count, bucket)| (u64::from(rows_per_bucket) * count - 1, bucket))
+        .collect();
     let buckets = Buckets::new("StandardStMan", 3, endianness, LARGEST, BUCKETS);
     let index = Index::new(rows_per_bucket, 1, &entries);
     of_manager_3(table, StandardFile::new(buckets, vec![INDEX_BUCKET], vec![index]))
+}
+
+/// Data buckets of which 2^32 rows fill 512; so many that a search by the low
+/// halves of last rows takes other looks.
+const PAST_32_BITS: u32 = 544;
+
+/// StandardStMan: a Bool in each of more than 2^32 rows, with StandardStMan 4 and
+/// SSMIndex 2. Some buckets are not full, so that a row divided by rows per
+/// bucket is another entry. The bytes that are not zero are few.
+pub fn past_32_bits(endianness: u32) -> Subject<StandardFile> {
+    let rows_per_bucket = 8 * LARGEST;
+    let part =
+        |entry: u32| rows_per_bucket - if entry.is_multiple_of(40) { 1000 + entry } else { 0 };
+    let parts: Vec<u64> = (0..PAST_32_BITS).map(|entry| part(entry).into()).collect();
+    let rows = parts.iter().sum();
+    let columns = vec![Column::scalar(BOOL, "")];
+    let table = lean::bare(rows, endianness, columns, vec![manager_3("StandardStMan", endianness)]);
+    let mut index = Index::new(rows_per_bucket, 1, &standard::generate::entries(&parts));
+    // In falling order, without the index's.
+    let numbers = (0..=PAST_32_BITS).rev().filter(|bucket| *bucket != INDEX_BUCKET);
+    index.buckets.elements = numbers.collect();
+    let buckets = Buckets::new("StandardStMan", 4, endianness, LARGEST, PAST_32_BITS + 1);
+    of_manager_3(table, StandardFile::new(buckets, vec![INDEX_BUCKET], vec![index]))
+}
+
+/// The same, but the last rows have lost their high halves: it is refused (11).
+pub fn low_halves(endianness: u32) -> Subject<StandardFile> {
+    let mut subject = past_32_bits(endianness);
+    for last in &mut subject.file.indices[0].last_rows.elements {
+        *last &= u64::from(u32::MAX);
+    }
+    subject
 }
 
 /// IncrementalStMan above 4 GiB: values at the end of the data part, two for
@@ -236,13 +270,13 @@ pub fn incremental_above_4_gib(endianness: u32) -> Subject<IncrementalFile> {
         let mut values = |column: &Column| {
             end -= 2 * cells::extent(column, 1) as u32;
             let second = end + cells::extent(column, 1) as u32;
-            Values { count: None, starts: vec![0, 3], offsets: vec![end, second] }
+            Values::new(vec![0, 3], vec![end, second])
         };
         let columns = columns.iter().map(&mut values).collect();
-        DataBucket { number, index_offset: None, data: vec![0; length as usize], columns }
+        DataBucket::new(number, vec![0; length as usize], columns)
     });
-    let first_rows = (0..=SPREAD.len() as u32).map(|entry| rows_of_bucket * entry).collect();
-    let rows = rows_of_bucket * SPREAD.len() as u32;
+    let first_rows = (0..=SPREAD.len() as u64).map(|entry| rows_of_bucket * entry).collect();
+    let rows = rows_of_bucket * SPREAD.len() as u64;
     let table =
         lean::bare(rows, endianness, columns, vec![manager_3("IncrementalStMan", endianness)]);
     let buckets = Buckets::new("IncrementalStMan", 5, endianness, LARGEST, BUCKETS);
@@ -280,7 +314,8 @@ mod tests {
         let position = with_place.next().expect("a column with places");
         let place = |row| subject.file.place(&subject.table, position, row).0;
         assert!(place(2) > 1 << 35, "{}", place(2));
-        let above = (0..subject.table.rows).step_by(2).take(32).filter(|row| place(*row) > 1 << 32);
+        let above =
+            (0..subject.table.rows()).step_by(2).take(32).filter(|row| place(*row) > 1 << 32);
         assert!(above.count() > 10);
     }
 
@@ -290,6 +325,16 @@ mod tests {
         assert_above(&incremental_above_4_gib(1));
         let bools = bools_above_4_gib(0);
         assert!(bools.file.place(&bools.table, 0, 8_388_607).0 > 1 << 35);
+    }
+
+    #[test]
+    fn rows_are_past_32_bits() {
+        let subject = past_32_bits(1);
+        let last_rows = &subject.file.indices[0].last_rows;
+        assert!(last_rows.wide && subject.table.rows() > (1 << 32) + 8_388_608);
+        let other = low_halves(1).file.indices[0].last_rows.elements.clone();
+        let differ = other.iter().zip(&last_rows.elements).filter(|(low, whole)| low != whole);
+        assert!(differ.count() > 1);
     }
 
     #[test]

@@ -1,7 +1,7 @@
 //! Pseudo random tables with files: their `table.dat` has few bytes, so that
 //! request lines stay short.
 
-use crate::generate::{OTHER_KINDS, info_form};
+use crate::generate::{OTHER_KINDS, info_form, rows_form};
 use crate::rng::Rng;
 use crate::table::{BOOL, Column, Manager, Record, STRING, TYPES, Table};
 
@@ -79,10 +79,11 @@ fn axes(rng: &mut Rng, most: usize) -> Vec<i64> {
 }
 
 /// A table of these columns, bound to the manager with this number, and of
-/// some columns of the other managers, in any order; at most 64.
+/// some columns of the other managers, in any order; at most 64. ColumnSet has
+/// either version.
 pub fn table(
     rng: &mut Rng,
-    (rows, endianness): (u32, u32),
+    (rows, endianness): (u64, u32),
     own: Vec<Column>,
     mut managers: Vec<Manager>,
     number: u32,
@@ -104,11 +105,13 @@ pub fn table(
     }
     rng.shuffle(&mut columns);
     columns.truncate(64);
-    bare(rows, endianness, columns, managers)
+    let mut table = bare(rows, endianness, columns, managers);
+    rows_form(rng, &mut table);
+    table
 }
 
 /// A table with empty texts and records; the columns are named by position.
-pub fn bare(rows: u32, endianness: u32, columns: Vec<Column>, managers: Vec<Manager>) -> Table {
+pub fn bare(rows: u64, endianness: u32, columns: Vec<Column>, managers: Vec<Manager>) -> Table {
     let named = columns.into_iter().enumerate().map(|(position, column)| {
         let name = format!("C{position}");
         let mut column = Column {
@@ -129,12 +132,12 @@ pub fn bare(rows: u32, endianness: u32, columns: Vec<Column>, managers: Vec<Mana
 
 /// Parts of `rows`, each of at least one and at most `most` rows; many are
 /// full, as they are before rows are deleted.
-pub fn parts(rng: &mut Rng, rows: u32, most: u32) -> Vec<u32> {
+pub fn parts(rng: &mut Rng, rows: u64, most: u64) -> Vec<u64> {
     let mut left = rows;
     let mut parts = Vec::new();
     while left > 0 {
         let full = most.min(left);
-        let part = if rng.chance(3, 5) { full } else { rng.within(1..=full as usize) as u32 };
+        let part = if rng.chance(3, 5) { full } else { rng.within(1..=full as usize) as u64 };
         left -= part;
         parts.push(part);
     }

@@ -27,6 +27,7 @@ pub mod order;
 pub mod questions;
 pub mod record;
 pub mod rng;
+pub mod rows;
 pub mod samples;
 pub mod sets;
 pub mod small_file;

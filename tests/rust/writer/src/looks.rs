@@ -23,7 +23,7 @@ const MANY: [usize; 18] = [
     3900,
 ];
 /// The counts of the sets of a file, and the least rows.
-const SETS: [(&[usize], u32); 20] = [
+const SETS: [(&[usize], u64); 20] = [
     (&[1, 2], 0),
     (&[2, 1], 0),
     (&[5, 7], 0),
@@ -65,7 +65,7 @@ pub fn lines() -> impl Iterator<Item = String> + Send {
 }
 
 /// The entry counts of each file's sets, and the least rows.
-fn counts() -> impl Iterator<Item = (Vec<usize>, u32)> + Send {
+fn counts() -> impl Iterator<Item = (Vec<usize>, u64)> + Send {
     let few = (1..=FEW).map(|count| (vec![count], 0));
     let sets = SETS.into_iter().map(|(counts, rows)| (counts.to_vec(), rows));
     let mixed = (0..MIXED as u64).map(|number| {
@@ -85,12 +85,12 @@ pub fn standard_files() -> impl Iterator<Item = Subject<StandardFile>> + Send {
 }
 
 /// A file whose sets have these entry counts.
-fn of_counts(rng: &mut Rng, counts: &[usize], least_rows: u32) -> Subject<StandardFile> {
+fn of_counts(rng: &mut Rng, counts: &[usize], least_rows: u64) -> Subject<StandardFile> {
     let most = counts.iter().copied().max().unwrap_or(1);
-    let rows = least_rows.max((most + rng.within(most / 2..=2 * most)) as u32);
+    let rows = least_rows.max((most + rng.within(most / 2..=2 * most)) as u64);
     let sets = counts.iter().map(|count| {
         let parts = parts(rng, rows, *count);
-        let rows_per_bucket = parts.iter().max().unwrap_or(&1) + rng.pick(&[0, 0, 1]);
+        let rows_per_bucket = *parts.iter().max().unwrap_or(&1) as u32 + rng.pick(&[0, 0, 1]);
         let columns = (0..rng.pick(&[1, 1, 2])).map(|_| column(rng, rows_per_bucket)).collect();
         (parts, Set::new(rng, columns, rows_per_bucket))
     });
@@ -99,8 +99,8 @@ fn of_counts(rng: &mut Rng, counts: &[usize], least_rows: u32) -> Subject<Standa
 }
 
 /// So many parts of the rows.
-fn parts(rng: &mut Rng, rows: u32, count: usize) -> Vec<u32> {
-    let mut ends: Vec<u32> = (1..rows).collect();
+fn parts(rng: &mut Rng, rows: u64, count: usize) -> Vec<u64> {
+    let mut ends: Vec<u64> = (1..rows).collect();
     rng.shuffle(&mut ends);
     ends.truncate(count - 1);
     ends.push(rows);
@@ -137,15 +137,15 @@ pub fn incremental_files() -> impl Iterator<Item = Subject<IncrementalFile>> + S
 fn has_places(subject: &Subject<IncrementalFile>) -> bool {
     let columns = subject.table.columns();
     let mut own = subject.own_columns().into_iter();
-    subject.table.rows > 0 && own.any(|position| subject.file.has_place(&columns[position]))
+    subject.table.rows() > 0 && own.any(|position| subject.file.has_place(&columns[position]))
 }
 
 /// The rows that are asked: the first and last of each entry and the one past
 /// the end, or some of these.
-fn asked_rows(last_rows: &[u32], most: usize) -> Vec<u32> {
+fn asked_rows(last_rows: &[u64], most: usize) -> Vec<u64> {
     let rows = last_rows.last().map_or(0, |last| last + 1);
     let borders = last_rows.iter().flat_map(|last| [*last, last + 1]);
-    let borders: Vec<u32> = [0].into_iter().chain(borders).collect();
+    let borders: Vec<u64> = [0].into_iter().chain(borders).collect();
     if borders.len() <= most {
         return borders;
     }
@@ -171,13 +171,13 @@ fn standard_lines(number: u64, subject: &Subject<StandardFile>) -> Vec<String> {
         }
         let last_rows = &index.last_rows.elements;
         let is_alone = indices.len() == 1;
-        let rows: Vec<u32> = match last_rows.len() {
+        let rows: Vec<u64> = match last_rows.len() {
             1..=12 if is_alone => (0..=asked.rows).collect(),
             13..=FEW if is_alone => asked_rows(last_rows, usize::MAX),
             _ => asked_rows(last_rows, most),
         };
         for (count, row) in rows.into_iter().enumerate() {
-            let (row, position) = (u64::from(row), rng.pick(&own));
+            let position = rng.pick(&own);
             let plan = &asked.plans[position];
             let place = asked.cell("place", row, position as u64, room);
             let planned = asked.planned_cell("placeplan", row, plan, room);
@@ -203,7 +203,7 @@ fn standard_lines(number: u64, subject: &Subject<StandardFile>) -> Vec<String> {
 /// rooms and torn files; and the check and plans, which have no looks.
 fn refused_lines(rng: &mut Rng, asked: &Asked, room: usize) -> Vec<String> {
     let position = rng.pick(&asked.own[0]);
-    let (row, rows) = (rng.number() % u64::from(asked.rows), u64::from(asked.rows));
+    let (row, rows) = (rng.number() % asked.rows, asked.rows);
     let fresh = asked.plans[position];
     let position = position as u64;
     let mut lines = vec![
@@ -239,7 +239,7 @@ fn incremental_lines(number: u64, subject: &Subject<IncrementalFile>) -> Vec<Str
     let room = rng.pick(&[0, 0, 3]);
     let mut lines = Vec::new();
     for first in &subject.file.index.first_rows.elements {
-        let (row, position) = (u64::from(*first), rng.pick(&asked.own[0]));
+        let (row, position) = (*first, rng.pick(&asked.own[0]));
         lines.push(asked.cell("place", row, position as u64, room));
         lines.push(asked.planned_cell("placeplan", row, &asked.plans[position], room));
     }

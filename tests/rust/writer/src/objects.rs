@@ -33,6 +33,9 @@ impl Expect {
     }
 }
 
+/// The sign of an Int64.
+pub const SIGN: u64 = 1 << 63;
+
 /// A number other than the good ones, often next to one.
 pub fn other_uint(rng: &mut Rng, good: &[u32]) -> u32 {
     loop {

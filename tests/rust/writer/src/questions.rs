@@ -20,9 +20,9 @@ pub struct Asked {
     pub number: u32,
     /// The sequence numbers of all managers.
     pub numbers: Vec<u32>,
-    pub rows: u32,
+    pub rows: u64,
     /// Rows beside borders.
-    pub border_rows: Vec<u32>,
+    pub border_rows: Vec<u64>,
     /// The positions of the manager's columns that have places, and of its
     /// others.
     pub own: [Vec<usize>; 2],
@@ -58,7 +58,7 @@ impl Asked {
             file: file.encode(),
             number: *number,
             numbers: table.managers().iter().map(|manager| manager.number).collect(),
-            rows: table.rows,
+            rows: table.rows(),
             border_rows: file.border_rows(),
             own: [with_place, others],
             plans,
@@ -173,19 +173,22 @@ impl Asked {
     }
 
     fn some_row(&self, rng: &mut Rng) -> u64 {
-        let rows = u64::from(self.rows);
+        let rows = self.rows;
         let row = match rng.below(3) {
             0 if rows > 0 => rng.number() % rows,
             1 if rows > 0 => rows - 1,
-            _ if !self.border_rows.is_empty() => u64::from(rng.pick(&self.border_rows)),
+            _ if !self.border_rows.is_empty() => rng.pick(&self.border_rows),
             _ => 0,
         };
         match rng.below(24) {
             0 => rows,
-            1 => rows + 1,
+            1 => rows.wrapping_add(1),
             2 => row | 1 << 32,
-            3 => rng.pick(&[u64::MAX, 1 << 63 | row, 1 << 31, 1 << 61 | row, rows | 1 << 32]),
+            3 => rng.pick(&[u64::MAX, 1 << 63 | row, 1 << 62, 1 << 61 | row, rows | 1 << 32]),
             4 => 0,
+            5 => (1 << rng.pick(&[31, 32, 62, 63])) + rng.below(3) as u64 - 1,
+            6 => row & 0xFFFF_FFFF, // and the row have the same low half
+            7 => row ^ 1 << rng.within(32..=33),
             _ => row,
         }
     }

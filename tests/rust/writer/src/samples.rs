@@ -10,7 +10,7 @@ use crate::table::{
 };
 
 /// The sample files: a name and the bytes of its `table.dat`.
-pub fn all() -> [(&'static str, Vec<u8>); 6] {
+pub fn all() -> [(&'static str, Vec<u8>); 7] {
     [
         ("small", small().encode()),
         ("little", little().encode()),
@@ -18,6 +18,7 @@ pub fn all() -> [(&'static str, Vec<u8>); 6] {
         ("overlong", overlong()),
         ("empty", Vec::new()),
         ("torn", torn()),
+        ("survey", survey().encode()),
     ]
 }
 
@@ -26,6 +27,7 @@ pub fn files(name: &str) -> Vec<(u32, Vec<u8>)> {
     match name {
         "small" => vec![(0, small_file().file.encode())],
         "little" => vec![(0, little_file().file.encode())],
+        "survey" => vec![(0, survey_file().file.encode())],
         "arrays" => {
             vec![(0, arrays_standard().file.encode()), (1, arrays_incremental().file.encode())]
         }
@@ -167,19 +169,115 @@ pub fn arrays_incremental() -> Subject<IncrementalFile> {
         }
         data.extend(scan.to_le_bytes());
         data.extend(10.0_f64.to_le_bytes());
-        let values = |starts: Vec<u32>, offsets| Values { count: None, starts, offsets };
+        let starts = (0..times).map(|time| 4 * u64::from(time));
         let columns = vec![
-            values((0..times).map(|time| 4 * time).collect(), (0..times).map(|t| 8 * t).collect()),
-            values(vec![0], vec![8 * times]),
-            values(vec![0], vec![8 * times + 4]),
+            Values::new(starts.collect(), (0..times).map(|time| 8 * time).collect()),
+            Values::new(vec![0], vec![8 * times]),
+            Values::new(vec![0], vec![8 * times + 4]),
         ];
-        DataBucket { number, index_offset: None, data, columns }
+        DataBucket::new(number, data, columns)
     };
     let data = vec![bucket(2, 12, 4_895_000_000.0, 1), bucket(0, 8, 4_895_000_030.0, 2)];
     let mut buckets = Buckets::new("IncrementalStMan", 5, 0, 128, 3);
     buckets.free = vec![1];
     let file = IncrementalFile::new(buckets, vec![0, 12, 20], data);
     Subject { table: arrays(), number: 1, file }
+}
+
+/// The rows of the survey, more than a uInt can count.
+pub const SURVEY_ROWS: u64 = 5_000_000_000;
+
+/// A little endian table of very many rows: ColumnSet -3, and no count in
+/// Table's header.
+pub fn survey() -> Table {
+    let column = |column: Column, comment: &str| incremental(column).of_manager(0).comment(comment);
+    let columns = vec![
+        column(Column::scalar(DOUBLE, "TIME"), "Modified Julian Day").keywords(measure(
+            &["s"],
+            "epoch",
+            "UTC",
+        )),
+        column(Column::scalar(INT, "ANTENNA1"), "ID of first antenna in interferometer"),
+        column(Column::scalar(INT, "SCAN_NUMBER"), "Sequential scan number from on-line system"),
+        column(Column::scalar(BOOL, "FLAG_ROW"), "Row flag - flag all data in this row"),
+    ];
+    let manager = Manager::new("IncrementalStMan", 0).with_object("ISMData");
+    Table::new(SURVEY_ROWS, 0, columns, vec![manager])
+}
+
+/// Its IncrementalStMan file: ISMIndex 2, three buckets and a free one. Values
+/// change at both sides of 2^31 and of 2^32, in a bucket of Int64 starts; the
+/// other two have uInt starts.
+pub fn survey_file() -> Subject<IncrementalFile> {
+    survey_of(survey())
+}
+
+fn survey_of(table: Table) -> Subject<IncrementalFile> {
+    const INT_END: u64 = 1 << 31;
+    const UINT_END: u64 = 1 << 32;
+    let order = Order::of(table.endianness);
+    let double = |value: f64| order.turn(value.to_be_bytes()).to_vec();
+    let times = |first: u32, count: u32| -> Vec<Vec<u8>> {
+        (first..first + count).map(|t| double(4_895_000_000.0 + 10.0 * f64::from(t))).collect()
+    };
+    let ints = |values: &[u32]| -> Vec<Vec<u8>> {
+        values.iter().map(|value| order.number(*value).to_vec()).collect()
+    };
+    let flags = |values: &[u8]| -> Vec<Vec<u8>> { values.iter().map(|v| vec![*v]).collect() };
+    let mut first = values_bucket(
+        2,
+        &[
+            (&[0, INT_END - 1, INT_END, UINT_END - 1, UINT_END], times(0, 5)),
+            (&[0, INT_END, UINT_END], ints(&[0, 1, 2])),
+            (&[0, UINT_END - 1], ints(&[1, 2])),
+            (&[0, INT_END - 1, INT_END, UINT_END, UINT_END + 1], flags(&[0, 1, 0, 1, 0])),
+        ],
+    );
+    first.widen(1);
+    let second = values_bucket(
+        0,
+        &[
+            (&[0, 150_000_000], times(5, 2)),
+            (&[0], ints(&[3])),
+            (&[0, 100_000_000], ints(&[2, 3])),
+            (&[0], flags(&[0])),
+        ],
+    );
+    let third = values_bucket(
+        3,
+        &[
+            (&[0], times(7, 1)),
+            (&[0, 199_999_999], ints(&[3, 4])),
+            (&[0], ints(&[4])),
+            (&[0, 199_999_999], flags(&[0, 1])),
+        ],
+    );
+    let first_rows = vec![0, 4_500_000_000, 4_800_000_000, SURVEY_ROWS];
+    let mut buckets = Buckets::new("IncrementalStMan", 5, table.endianness, 272, 4);
+    buckets.free = vec![1];
+    let file = IncrementalFile::new(buckets, first_rows, vec![first, second, third]);
+    Subject { table, number: 0, file }
+}
+
+/// A bucket with the starts and values of each column; equal values of a
+/// column are stored once.
+fn values_bucket(number: u32, columns: &[(&[u64], Vec<Vec<u8>>)]) -> DataBucket {
+    let mut data = Vec::new();
+    let values = columns.iter().map(|(starts, values)| {
+        let mut stored: Vec<(&[u8], u32)> = Vec::new();
+        let offsets = values.iter().map(|value| {
+            let earlier = stored.iter().find(|(bytes, _)| bytes == value);
+            let offset = earlier.map_or(data.len() as u32, |(_, offset)| *offset);
+            if earlier.is_none() {
+                stored.push((value, offset));
+                data.extend(value);
+            }
+            offset
+        });
+        Values::new(starts.to_vec(), offsets.collect())
+    });
+    let values = values.collect();
+    DataBucket::new(number, data, values)
 }
 
 /// The arrays table with objects in its DMInfos, one of each kind.
@@ -192,8 +290,40 @@ pub fn arrays_with_objects() -> Table {
     table
 }
 
+/// The small file in the byte order and the form of DMInfo of a table, with
+/// ColumnSet -3, StandardStMan 4 and SSMIndex 2.
+pub fn wide_small(table: Table) -> Subject<StandardFile> {
+    let mut subject = file_of_small(table);
+    subject.table.widen(1);
+    subject.file.buckets.header.version = 4;
+    subject.file.indices[0].widen();
+    // The text is eight bytes longer, and fits into the chain.
+    subject
+}
+
+/// Two sets of the small file's columns, with SSMIndex of these versions.
+pub fn two_sets(endianness: u32, wide: [bool; 2]) -> Subject<StandardFile> {
+    let mut table = small_table(endianness, Manager::new("StandardStMan", 0));
+    for (column, (set, offset)) in table.columns_mut().iter_mut().zip([(0, 0), (1, 0), (1, 1)]) {
+        (column.info.set, column.info.offset) = (set, offset);
+    }
+    table.write_infos();
+    let buckets = Buckets::new("StandardStMan", 4, endianness, 64, 12);
+    let sets = [(1, &[(2, 2), (5, 0), (6, 7)]), (2, &[(3, 6), (4, 9), (6, 8)])];
+    let indices = sets.into_iter().zip(wide).map(|((columns, entries), wide)| {
+        let mut index = Index::new(4, columns, entries);
+        if wide {
+            index.widen();
+        }
+        index
+    });
+    let file = StandardFile::new(buckets, vec![1, 3, 4, 5, 11, 10], indices.collect());
+    Subject { table, number: 0, file }
+}
+
 /// The samples' StandardStMan files with their tables, and the small one in
-/// both byte orders with free space, each with the other's form of DMInfo.
+/// both byte orders with free space, each with the other's form of DMInfo; and
+/// with row numbers of 64 bits, in one of two sets too.
 pub fn standard_files() -> Vec<Subject<StandardFile>> {
     let with_free_space = |mut subject: Subject<StandardFile>| {
         subject.file.indices[0].free_space.pairs = vec![(49, 15), (64, 0)];
@@ -207,21 +337,26 @@ pub fn standard_files() -> Vec<Subject<StandardFile>> {
         arrays_standard(),
         with_free_space(file_of_small(big)),
         with_free_space(file_of_small(little)),
+        wide_small(small()),
+        wide_small(self::little()),
+        two_sets(1, [false, true]),
+        two_sets(0, [true, false]),
     ]
 }
 
-/// The samples' IncrementalStMan file with its table, in both byte orders; the
-/// big endian table with objects in its DMInfos.
+/// The samples' IncrementalStMan files with their tables, in both byte orders;
+/// the big endian one of arrays with objects in its DMInfos.
 pub fn incremental_files() -> Vec<Subject<IncrementalFile>> {
     let mut big = Subject { table: arrays_with_objects(), ..arrays_incremental() };
     big.table.endianness = 1;
     big.file.buckets.turn(1);
     big.file.order = Order::Big;
-    vec![arrays_incremental(), big]
+    let big_survey = Table { endianness: 1, ..survey() };
+    vec![arrays_incremental(), big, survey_file(), survey_of(big_survey)]
 }
 
 /// Where a cell of a named column stands: its first bit.
-fn first_bit(subject: &Subject<StandardFile>, name: &str, row: u32) -> usize {
+fn first_bit(subject: &Subject<StandardFile>, name: &str, row: u64) -> usize {
     let columns = subject.table.columns();
     let position = columns.iter().position(|column| column.name.bytes == name.as_bytes());
     let position = position.expect("there is this column");
@@ -237,14 +372,14 @@ fn put_at(subject: &mut Subject<StandardFile>, byte: usize, bytes: &[u8]) {
 
 /// Writes a cell.
 fn put(subject: &mut Subject<StandardFile>, name: &str, row: u32, value: &[u8]) {
-    let byte = first_bit(subject, name, row) / 8;
+    let byte = first_bit(subject, name, row.into()) / 8;
     put_at(subject, byte, value);
 }
 
 /// Writes the cells of a Bool column, some of which share a byte.
-fn put_bits(subject: &mut Subject<StandardFile>, name: &str, value: fn(u32) -> Vec<bool>) {
+fn put_bits(subject: &mut Subject<StandardFile>, name: &str, value: fn(u64) -> Vec<bool>) {
     let mut bytes = std::collections::BTreeMap::new();
-    for row in 0..subject.table.rows {
+    for row in 0..subject.table.rows() {
         let first = first_bit(subject, name, row);
         for (element, is_true) in value(row).into_iter().enumerate() {
             let bit = first + element;

@@ -10,6 +10,7 @@ use crate::layout::{Layout, Part};
 use crate::lean;
 use crate::looks;
 use crate::rng::Rng;
+use crate::rows;
 use crate::samples;
 use crate::small_file;
 use crate::table::{BOOL, COMPLEX, Column, DCOMPLEX, INT, Manager, Record, Table};
@@ -36,6 +37,8 @@ incremental SEED COUNT
 fields             every named field of the samples with other bytes
 torn               the samples' files, cut off at one byte after the other
 looks              Place in good files whose sets have 1 to 3,900 entries
+rows               row numbers of 64 bits: every mixture of versions, tables of more
+                   rows than 32 bits can count, and their refused neighbours
 files-large [SEED COUNT]
                    files of 4,096 buckets, or with the largest buckets
 small-file         the small file of RULES.md 11, its cases and variants of them";
@@ -54,6 +57,7 @@ pub enum Set {
     Fields,
     Torn,
     Looks,
+    Rows,
     FilesLarge { seed: u64, count: u64 },
     SmallFile,
 }
@@ -84,6 +88,7 @@ impl Set {
             ["fields"] => Self::Fields,
             ["torn"] => Self::Torn,
             ["looks"] => Self::Looks,
+            ["rows"] => Self::Rows,
             ["files-large"] => Self::FilesLarge { seed: 1, count: 60 },
             ["files-large", seed, count] => {
                 Self::FilesLarge { seed: number(seed)?, count: number(count)? }
@@ -102,8 +107,13 @@ impl Set {
                 question(rng, &case)
             })),
             Self::Prefixes => {
-                let tables =
-                    [samples::small(), samples::arrays(), samples::little(), complex_scalars()];
+                let tables = [
+                    samples::small(),
+                    samples::arrays(),
+                    samples::little(),
+                    samples::survey(),
+                    complex_scalars(),
+                ];
                 let tables = tables.into_iter().flat_map(|table| prefixes(table.layout()));
                 let infos = [samples::little(), samples::arrays_with_objects()];
                 let infos = infos.into_iter().flat_map(info_prefixes);
@@ -143,6 +153,7 @@ impl Set {
             Self::Fields => Box::new(fields::lines()),
             Self::Torn => Box::new(torn::lines()),
             Self::Looks => Box::new(looks::lines()),
+            Self::Rows => Box::new(rows::lines()),
             Self::FilesLarge { seed, count } => Box::new((0..count).map(move |number| {
                 let rng = &mut Rng::new(seed, number);
                 large_files::case(rng, number).question(rng)

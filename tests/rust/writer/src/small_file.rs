@@ -95,7 +95,7 @@ fn cells(asked: &Asked) -> Vec<String> {
 fn variant_lines(subject: Small) -> Vec<String> {
     let asked = Asked::new(&subject);
     let mut lines = vec![asked.check(0, ROOM)];
-    let row = u64::from(subject.table.rows).saturating_sub(1);
+    let row = subject.table.rows().saturating_sub(1);
     for position in 0..subject.table.columns().len() as u64 {
         lines.push(asked.cell("place", row, position, ROOM));
         lines.push(asked.cell("view", row, position, ROOM));
@@ -128,7 +128,7 @@ fn variants(small: &Small) -> Vec<Small> {
         for second in 0..=9 {
             for rows in [second + 1, 7] {
                 add(&|subject| {
-                    set_rows(&mut subject.table, rows);
+                    subject.table.set_rows(rows);
                     subject.file.indices[0].last_rows.elements = vec![first, second];
                 });
             }
@@ -179,7 +179,7 @@ fn variants(small: &Small) -> Vec<Small> {
         add(&|subject| subject.file.indices[0].columns = value as i32 - 1);
         add(&|subject| subject.file.indices[0].rows_per_bucket = value);
         add(&|subject| subject.file.indices[0].entries = Some(value));
-        add(&|subject| set_rows(&mut subject.table, value));
+        add(&|subject| subject.table.set_rows(value.into()));
         add(&|subject| subject.table.columns_mut()[FLAG].info.set = value);
     }
     for size in [15, 16, 63, 64, 65, 1_048_576, 1_048_577] {
@@ -187,11 +187,6 @@ fn variants(small: &Small) -> Vec<Small> {
     }
     add(&eight_bools);
     variants
-}
-
-fn set_rows(table: &mut Table, rows: u32) {
-    table.rows = rows;
-    table.column_set.rows = rows;
 }
 
 /// L: 8 Bools in each row, at offset 0 of bucket 0.

@@ -45,23 +45,31 @@ pub struct Index {
     pub rows_per_bucket: u32,
     pub columns: i32,
     pub free_space: FreeSpace,
-    pub last_rows: Block,
+    pub last_rows: Block<u64>,
     pub buckets: Block,
 }
 
 impl Index {
-    /// The entries are a last row and a bucket each.
-    pub fn new(rows_per_bucket: u32, columns: usize, entries: &[(u32, u32)]) -> Self {
+    /// The entries are a last row and a bucket each. Of version 1, unless there
+    /// are too many rows.
+    pub fn new(rows_per_bucket: u32, columns: usize, entries: &[(u64, u32)]) -> Self {
+        let last_rows = Block::new(entries.iter().map(|(last, _)| *last).collect());
         Self {
             mark: [0xBE; 4],
-            header: Header::new("SSMIndex", 1),
+            header: Header::new("SSMIndex", if last_rows.wide { 2 } else { 1 }),
             entries: None,
             rows_per_bucket,
             columns: columns as i32,
             free_space: FreeSpace::new(Vec::new()),
-            last_rows: Block::new(entries.iter().map(|(last, _)| *last).collect()),
+            last_rows,
             buckets: Block::new(entries.iter().map(|(_, bucket)| *bucket).collect()),
         }
+    }
+
+    /// Version 2, with Int64 last rows.
+    pub fn widen(&mut self) {
+        self.header.version = 2;
+        self.last_rows.wide = true;
     }
 
     fn encode(&self, set: usize, out: &mut Encoder) {
@@ -235,7 +243,7 @@ impl BucketFile for StandardFile {
         self.buckets.start(self.index_chain[byte / in_bucket]) + LINKS + byte % in_bucket
     }
 
-    fn border_rows(&self) -> Vec<u32> {
+    fn border_rows(&self) -> Vec<u64> {
         let last_rows = self.indices.iter().flat_map(|index| &index.last_rows.elements);
         last_rows.flat_map(|last| [*last, last.saturating_add(1)]).collect()
     }
@@ -279,7 +287,7 @@ impl BucketFile for StandardFile {
         ]
     }
 
-    fn place(&self, table: &Table, position: usize, row: u32) -> (u64, u64) {
+    fn place(&self, table: &Table, position: usize, row: u64) -> (u64, u64) {
         let column = &table.columns()[position];
         let index = &self.indices[column.info.set as usize];
         let mut first_row = 0;
@@ -287,14 +295,14 @@ impl BucketFile for StandardFile {
             if row <= *last {
                 let byte = self.buckets.start(*bucket) as u64 + u64::from(column.info.offset);
                 let bits = cells::bits(column);
-                return (8 * byte + u64::from(row - first_row) * bits, bits);
+                return (8 * byte + (row - first_row) * bits, bits);
             }
             first_row = last + 1;
         }
         panic!("row {row} is in no bucket")
     }
 
-    fn looks(&self, table: &Table, position: usize, row: u32) -> [u64; 2] {
+    fn looks(&self, table: &Table, position: usize, row: u64) -> [u64; 2] {
         let set = table.columns()[position].info.set;
         let last_rows = &self.indices[set as usize].last_rows.elements;
         let entry = last_rows.iter().filter(|last| **last < row).count();

@@ -368,7 +368,8 @@ impl Manager {
 pub struct Table {
     pub mark: [u8; 4],
     pub header: Header,
-    pub rows: u32,
+    /// The row count in Table's header.
+    pub header_rows: u32,
     pub endianness: u32,
     pub table_type: Text,
     pub description: TableDesc,
@@ -395,7 +396,10 @@ pub struct TableDesc {
 #[derive(Clone, Debug)]
 pub struct ColumnSet {
     pub version: i32,
-    pub rows: u32,
+    /// A negative one is that of the same bits.
+    pub rows: u64,
+    /// Whether the row count is written as Int64 (version -3) or uInt (-2).
+    pub wide: bool,
     pub highest: u32,
     /// The number of managers, if it is stated other than it is.
     pub manager_count: Option<u32>,
@@ -403,11 +407,13 @@ pub struct ColumnSet {
 }
 
 impl Table {
-    pub fn new(rows: u32, endianness: u32, columns: Vec<Column>, managers: Vec<Manager>) -> Self {
+    /// With ColumnSet -2, unless the rows are too many for a uInt.
+    pub fn new(rows: u64, endianness: u32, columns: Vec<Column>, managers: Vec<Manager>) -> Self {
+        let wide = rows > u32::MAX.into();
         let mut table = Self {
             mark: [0xBE; 4],
             header: Header::new("Table", 2),
-            rows,
+            header_rows: if wide { 0 } else { rows as u32 },
             endianness,
             table_type: "PlainTable".into(),
             description: TableDesc {
@@ -421,8 +427,9 @@ impl Table {
                 columns,
             },
             column_set: ColumnSet {
-                version: -2,
+                version: if wide { -3 } else { -2 },
                 rows,
+                wide,
                 // As Casacore has it: the next number to give.
                 highest: managers.iter().map(|manager| manager.number + 1).max().unwrap_or(0),
                 manager_count: None,
@@ -433,6 +440,26 @@ impl Table {
         };
         table.write_infos();
         table
+    }
+
+    /// ColumnSet -3, and any row count in Table's header.
+    pub fn widen(&mut self, header_rows: u32) {
+        self.header_rows = header_rows;
+        self.column_set.version = -3;
+        self.column_set.wide = true;
+    }
+
+    /// The table's row count: ColumnSet's.
+    pub fn rows(&self) -> u64 {
+        self.column_set.rows
+    }
+
+    /// Another row count; Table's header has it too where it is compared.
+    pub fn set_rows(&mut self, rows: u64) {
+        self.column_set.rows = rows;
+        if !self.column_set.wide {
+            self.header_rows = rows as u32;
+        }
     }
 
     /// Writes the DMInfo of StandardStMan and IncrementalStMan, of the columns

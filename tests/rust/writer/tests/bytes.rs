@@ -34,7 +34,8 @@ fn ends_early(byte: usize) -> Option<Refusal> {
 
 fn tables() -> Vec<Table> {
     let generated = (0..20).map(|number| generate::table(&mut Rng::new(81, number)));
-    let samples = [samples::small(), samples::little(), samples::arrays(), tiny()];
+    let samples =
+        [samples::small(), samples::little(), samples::arrays(), samples::survey(), tiny()];
     samples.into_iter().chain(generated).collect()
 }
 
@@ -219,7 +220,7 @@ fn lines(blamed: &Blamed) -> Vec<String> {
 #[test]
 fn every_judged_field_of_a_table_is_blamed() {
     let mut blamed = Blamed::new();
-    for layout in [samples::small().layout(), samples::arrays().layout()] {
+    for layout in [samples::small(), samples::arrays(), samples::survey()].map(|t| t.layout()) {
         for change in changes(&layout) {
             let refusal = describe(&change.of(&layout.bytes, |index| index));
             let itself = |refusal: &Refusal| refusal.byte == change.field.start as u64;
@@ -297,7 +298,6 @@ fn every_judged_field_of_a_table_is_blamed() {
         "Table mark: 2",
         "Table object name: 1 2",
         "Table object version: 3",
-        "Table rows: 4",
         "Table table type: 1 2",
         "TableDesc column count: 4",
         "TableDesc comment: 1",
@@ -356,6 +356,7 @@ fn every_judged_field_of_a_file_is_blamed() {
         "Numbers object name: 1 2",
         "Numbers object version: 3",
         "Rows count: 6",
+        "Rows element: 4",
         "Rows length: 1 7",
         "Rows object name: 1 2",
         "Rows object version: 3",
@@ -364,8 +365,7 @@ fn every_judged_field_of_a_file_is_blamed() {
     let of_standard = |line: &&str| {
         ["FreeSpace", "Header ind", "Index rows"].iter().any(|start| line.starts_with(start))
     };
-    let mut expected: Vec<&str> = expected.into_iter().filter(|line| !of_standard(line)).collect();
-    expected.insert(0, "Bucket index offset: 3");
+    let expected: Vec<&str> = expected.into_iter().filter(|line| !of_standard(line)).collect();
     assert_eq!(blamed_in(&samples::incremental_files()), expected);
 }
 
@@ -410,9 +410,25 @@ fn assert_standard(change: impl FnOnce(&mut StandardFile), number: u8, blame: Bl
     assert_file(samples::small_file(), change, number, blame);
 }
 
+/// The incremental file of arrays after a change, in both byte orders.
 fn assert_incremental(change: impl Fn(&mut IncrementalFile), number: u8, blame: Blame) {
-    for subject in samples::incremental_files() {
+    for subject in samples::incremental_files().into_iter().take(2) {
         assert_file(subject, &change, number, blame);
+    }
+}
+
+/// The same of the survey.
+fn assert_survey(change: impl Fn(&mut IncrementalFile), number: u8, blame: Blame) {
+    for subject in samples::incremental_files().into_iter().skip(2) {
+        assert_file(subject, &change, number, blame);
+    }
+}
+
+/// The small file with row numbers of 64 bits after a change, in both byte
+/// orders.
+fn assert_wide(change: impl Fn(&mut StandardFile), number: u8, blame: Blame) {
+    for table in [samples::small(), samples::little()] {
+        assert_file(samples::wide_small(table), &change, number, blame);
     }
 }
 
@@ -512,7 +528,7 @@ fn a_default_value_is_one_field() {
 
 #[test]
 fn of_two_facts_the_later() {
-    assert_table(|table| table.rows = 8, 6, Part::ColumnSet.field("rows"));
+    assert_table(|table| table.header_rows = 8, 6, Part::ColumnSet.field("rows"));
     assert_table(|table| table.column_set.rows = 8, 6, Part::ColumnSet.field("rows"));
     let twice = |table: &mut Table| table.columns_mut()[0].name = "TIME".into();
     assert_table(twice, 6, Part::Column(2).field("name"));
@@ -658,7 +674,7 @@ fn of_files_above_4_gib() {
         Blame::Byte(needed - 1),
     );
     let subject = large_files::incremental_above_4_gib(0);
-    let version = |file: &mut IncrementalFile| file.index.header.version = 2;
+    let version = |file: &mut IncrementalFile| file.index.header.version = 3;
     assert_file(subject, version, 3, Blame::Byte(needed + 4 + 16)); // behind the mark, length and name
 }
 
@@ -687,14 +703,85 @@ fn of_buckets_in_the_file() {
     let offset = |entry: usize, offset| {
         move |file: &mut IncrementalFile| file.data[entry].index_offset = Some(offset)
     };
-    let blame = |entry| Part::Bucket(entry).field("index offset");
-    assert_incremental(offset(0, 0x0100_0010), 3, blame(0));
-    assert_incremental(offset(1, 0xFF00_0000), 3, blame(1));
     // Bucket 2 of 128 bytes is the first of the index; its number of values
     // does not fit.
     assert_incremental(offset(0, 126), 1, Blame::Byte(512 + 2 * 128 + 126));
     assert_incremental(offset(0, 128), 1, Blame::Byte(512 + 3 * 128));
     assert_incremental(offset(0, 129), 11, Blame::Nothing);
+    // The survey's first bucket is 2 as well, of 272 bytes, with a high byte.
+    assert_survey(offset(0, 270), 1, Blame::Byte(512 + 2 * 272 + 270));
+    assert_survey(offset(0, 272), 1, Blame::Byte(512 + 3 * 272));
+    assert_survey(offset(0, 273), 11, Blame::Nothing);
+    assert_survey(offset(0, 3), 11, Blame::Nothing);
+}
+
+#[test]
+fn of_row_numbers_the_negative_one() {
+    let rows = Part::Rows(0);
+    const NEGATIVE: u64 = 1 << 63;
+    for element in 0..2 {
+        let blame = rows.nth("element", element);
+        assert_wide(|file| file.indices[0].last_rows.elements[element] |= NEGATIVE, 4, blame);
+        assert_wide(|file| file.indices[0].last_rows.elements[element..].fill(u64::MAX), 4, blame);
+    }
+    for element in 0..4 {
+        let blame = rows.nth("element", element);
+        assert_survey(|file| file.index.first_rows.elements[element] |= NEGATIVE, 4, blame);
+        assert_survey(|file| file.index.first_rows.elements[element..].fill(u64::MAX), 4, blame);
+    }
+    // One that does not fit comes after a negative one, and before a later one.
+    let torn = |negative: usize, cut: usize| {
+        move |file: &mut IncrementalFile| {
+            file.index.first_rows.elements[negative] = NEGATIVE;
+            file.index.first_rows.header.cut = cut;
+        }
+    };
+    assert_survey(torn(1, 1), 4, rows.nth("element", 1));
+    assert_survey(torn(1, 16), 4, rows.nth("element", 1));
+    assert_survey(torn(1, 17), 1, rows.nth("element", 1));
+    assert_survey(torn(1, 24), 1, rows.nth("element", 1));
+    assert_survey(torn(3, 1), 1, rows.nth("element", 3));
+    // Above the row range: the map.
+    for row in [(1 << 62) + 1, NEGATIVE - 1] {
+        assert_survey(|file| file.index.first_rows.elements[3] = row, 11, Blame::Nothing);
+        assert_wide(|file| file.indices[0].last_rows.elements[1] = row, 11, Blame::Nothing);
+    }
+}
+
+#[test]
+fn of_the_other_width_what_does_not_fit_or_is_left_over() {
+    let rows = Part::Rows(0);
+    assert_survey(|file| file.index.header.version = 1, 7, rows.header());
+    assert_survey(|file| file.index.first_rows.wide = false, 1, Blame::End(rows));
+    assert_survey(|file| file.index.buckets.wide = true, 7, Part::Numbers(0).header());
+    assert_incremental(|file| file.index.header.version = 2, 1, rows.nth("element", 2));
+    assert_incremental(|file| file.index.first_rows.wide = true, 7, rows.header());
+    assert_wide(|file| file.indices[0].header.version = 1, 7, rows.header());
+    assert_wide(|file| file.indices[0].last_rows.wide = false, 1, Blame::End(rows));
+    assert_standard(|file| file.indices[0].header.version = 2, 1, Blame::End(rows));
+    assert_standard(|file| file.indices[0].last_rows.wide = true, 7, rows.header());
+}
+
+#[test]
+fn of_starts_the_one_that_does_not_fit() {
+    // The first bucket's data grow until its index passes its end.
+    let starts = |start: u64, kept: usize| {
+        move |file: &mut IncrementalFile| {
+            let size = file.buckets.size as usize;
+            let bucket = &mut file.data[0];
+            bucket.columns[0].starts[2] = start;
+            bucket.data.resize(size - DATA_START as usize - kept, 0);
+        }
+    };
+    let blame = |value| Part::Values(0, 0).nth("start", value);
+    // The number of values has 4 bytes, the starts before the third have 16.
+    let good = 1 << 31;
+    assert_survey(starts(good, 4 + 16 + 7), 1, blame(2));
+    assert_survey(starts(good, 4 + 16 + 8), 1, blame(3));
+    for bad in [0, good - 1, 1 << 62, (1 << 63) - 1, 1 << 63, u64::MAX] {
+        assert_survey(starts(bad, 4 + 16 + 7), 1, blame(2));
+        assert_survey(starts(bad, 4 + 16 + 8), 11, Blame::Nothing);
+    }
 }
 
 #[test]

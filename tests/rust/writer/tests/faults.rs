@@ -72,21 +72,21 @@ fn descriptions_are_as_written() {
         let table = generate::table(&mut Rng::new(16, number));
         let bytes = table.encode();
         let description = model::describe(&bytes).unwrap();
-        assert_eq!(description.rows, table.rows);
+        assert_eq!(description.rows, table.rows());
         assert_eq!(u32::from(description.byte_order.is_big()), table.endianness);
         assert_eq!(description.columns.len(), table.columns().len());
         for (column, written) in description.columns.iter().zip(table.columns()) {
             let info = &written.info;
             let mut managers = table.managers().iter();
             let manager = managers.find(|manager| manager.number == info.manager).unwrap();
-            let place = if manager.tells_places() { (info.set, info.offset) } else { (0, 0) };
+            let place = if manager.tells_places() { [info.set, info.offset] } else { [0; 2] };
             assert_eq!(column.name, written.name.bytes);
             assert_eq!(column.data_type.number(), written.data_type);
             assert_eq!(column.is_array, written.is_array());
             assert_eq!(column.options, written.options);
             assert_eq!(column.string_maximum, written.string_maximum);
             assert_eq!(column.manager, info.manager);
-            assert_eq!((column.set, column.offset), place);
+            assert_eq!([column.set, column.offset], place.map(u64::from));
             let elements = match &written.shape {
                 None => 1,
                 Some(shape) if written.is_fixed() => shape.axes.iter().product(),

@@ -20,22 +20,13 @@ fn subject(endianness: u32) -> Small {
     ];
     let managers = vec![Manager::new("IncrementalStMan", 1), Manager::new("TiledShapeStMan", 2)];
     let table = Table::new(7, endianness, columns, managers);
-    let values = |starts: &[u32], offsets: &[u32]| Values {
-        count: None,
-        starts: starts.to_vec(),
-        offsets: offsets.to_vec(),
-    };
+    let values = |starts: &[u64], offsets: &[u32]| Values::new(starts.to_vec(), offsets.to_vec());
     let columns = vec![
         values(&[0, 1, 2], &[0, 4, 8]),
         values(&[0], &[15]), // at the data part's end
         values(&[0, 2], &[13, 13]),
     ];
-    let bucket = |number| DataBucket {
-        number,
-        index_offset: None,
-        data: vec![7; 15],
-        columns: columns.clone(),
-    };
+    let bucket = |number| DataBucket::new(number, vec![7; 15], columns.clone());
     let buckets = Buckets::new("IncrementalStMan", 5, endianness, 79, 4);
     let mut file = IncrementalFile::new(buckets, vec![0, 4, 7], vec![bucket(2), bucket(0)]);
     file.buckets.free = vec![3];
@@ -72,11 +63,6 @@ fn values(column: usize, change: impl Fn(&mut Values)) -> u8 {
     small(|subject| change(&mut subject.file.data[0].columns[column]))
 }
 
-fn set_rows(subject: &mut Small, rows: u32) {
-    subject.table.rows = rows;
-    subject.table.column_set.rows = rows;
-}
-
 #[test]
 fn samples_are_accepted() {
     let subject = samples::arrays_incremental();
@@ -92,6 +78,36 @@ fn samples_are_accepted() {
     assert_eq!(times[12..16], [4_895_000_030.0; 4]);
     assert_eq!(view(&table, &file, 19, 4, &mut []), Ok(&2_i32.to_le_bytes()[..]));
     assert_eq!(view(&table, &file, 0, 5, &mut []), Ok(&10.0_f64.to_le_bytes()[..]));
+}
+
+#[test]
+fn values_of_the_survey() {
+    let subject = samples::survey_file();
+    let (table, file) = (subject.table.encode(), subject.file.encode());
+    assert_eq!(table, samples::all()[6].1);
+    let cell = |row, position| view(&table, &file, row, position, &mut []).unwrap();
+    let time =
+        |row| (f64::from_le_bytes(cell(row, 0).try_into().unwrap()) - 4_895_000_000.0) as u32;
+    let int = |row, position| i32::from_le_bytes(cell(row, position).try_into().unwrap());
+    // The rows of each time, in steps of ten seconds; antenna, scan and flag of
+    // the first and the last of them.
+    let runs = [
+        (0, (1 << 31) - 2, [0, 1, 0], [0, 1, 0]),
+        ((1 << 31) - 1, (1 << 31) - 1, [0, 1, 1], [0, 1, 1]),
+        (1 << 31, (1 << 32) - 2, [1, 1, 0], [1, 1, 0]),
+        ((1 << 32) - 1, (1 << 32) - 1, [1, 2, 0], [1, 2, 0]),
+        (1 << 32, 4_499_999_999, [2, 2, 1], [2, 2, 0]),
+        (4_500_000_000, 4_649_999_999, [3, 2, 0], [3, 3, 0]),
+        (4_650_000_000, 4_799_999_999, [3, 3, 0], [3, 3, 0]),
+        (4_800_000_000, 4_999_999_999, [3, 4, 0], [4, 4, 1]),
+    ];
+    for (step, (first, last, of_first, of_last)) in (0..).zip(runs) {
+        for (row, values) in [(first, of_first), (last, of_last)] {
+            assert_eq!(time(row), 10 * step, "{row}");
+            assert_eq!([int(row, 1), int(row, 2), cell(row, 3)[0].into()], values, "{row}");
+        }
+    }
+    assert_eq!(view(&table, &file, 5_000_000_000, 0, &mut []), Err(NO_ROW));
 }
 
 #[test]
@@ -149,7 +165,11 @@ fn header_and_length() {
 #[test]
 fn index_object() {
     assert_eq!(file(|file| file.index.mark[1] = 0), 2);
-    assert_eq!(file(|file| file.index.header.version = 2), 3);
+    assert_eq!(file(|file| file.index.header.version = 0), 3);
+    assert_eq!(file(|file| file.index.header.version = 3), 3);
+    assert_eq!(file(|file| file.index.header.version = 2), 1); // of first rows of 4 bytes
+    assert_eq!(file(|file| file.index.first_rows.wide = true), 7);
+    assert_eq!(file(|file| file.index.widen()), 0);
     assert_eq!(file(|file| file.index.header.name = "SSMIndex".into()), 2);
     assert_eq!(file(|file| file.index.header.extra = vec![0]), 7);
     assert_eq!(file(|file| file.index.header.cut = 1), 1);
@@ -172,7 +192,7 @@ fn index_object() {
         file(|file| {
             file.buckets.first_free = Some(9);
             file.index.buckets.elements[0] = 9;
-            file.index.header.version = 2;
+            file.index.header.version = 3;
         }),
         3
     );
@@ -193,11 +213,11 @@ fn rows_and_buckets() {
     assert_eq!(file(|file| file.index.first_rows.elements[0] = 1), 11);
     assert_eq!(file(|file| file.index.first_rows.elements[1] = 7), 11);
     assert_eq!(file(|file| file.index.first_rows.elements[2] = 8), 11); // rows + 1
-    assert_eq!(small(|subject| set_rows(subject, 8)), 11);
+    assert_eq!(small(|subject| subject.table.set_rows(8)), 11);
     // Without rows there is no bucket.
-    let without_rows = |first_rows: &[u32], buckets: &[u32]| {
+    let without_rows = |first_rows: &[u64], buckets: &[u32]| {
         small(|subject| {
-            set_rows(subject, 0);
+            subject.table.set_rows(0);
             subject.file.index.first_rows.elements = first_rows.to_vec();
             subject.file.index.buckets.elements = buckets.to_vec();
         })
@@ -213,8 +233,6 @@ fn rows_and_buckets() {
 #[test]
 fn index_offsets_of_buckets() {
     // 79 is the bucket size.
-    assert_eq!(bucket(|bucket| bucket.index_offset = Some(0x0100_0013)), 3);
-    assert_eq!(bucket(|bucket| bucket.index_offset = Some(0xFF00_0000)), 3);
     assert_eq!(bucket(|bucket| bucket.index_offset = Some(3)), 11);
     assert_eq!(bucket(|bucket| bucket.index_offset = Some(80)), 11);
     assert_eq!(bucket(|bucket| bucket.index_offset = Some(0x0080_0000)), 11);
@@ -235,6 +253,15 @@ fn index_offsets_of_buckets() {
         })
     };
     assert_eq!([3, 4, 79, 80].map(no_columns), [11, 0, 0, 11]);
+    // With a high byte it is that of the low three.
+    let high = |offset| {
+        small(|subject| {
+            subject.table.columns_mut().iter_mut().for_each(|column| column.info.manager = 2);
+            subject.file.data[0].high = 0x80;
+            subject.file.data[0].index_offset = Some(offset);
+        })
+    };
+    assert_eq!([0, 3, 4, 79, 80].map(high), [11, 11, 0, 0, 11]);
 }
 
 #[test]
@@ -270,23 +297,28 @@ fn values_of_columns() {
             subject.file.data[1].index_offset = Some(second);
         })
     };
-    assert_eq!(both(0x0100_0000, 0), 3);
-    assert_eq!(both(0, 0x0100_0000), 11);
+    assert_eq!(both(79, 0), 1);
+    assert_eq!(both(0, 79), 11);
 }
 
 #[test]
 fn limits() {
-    // One value for all rows of the largest table.
-    let largest = small(|subject| {
-        set_rows(subject, i32::MAX as u32);
-        subject.file.index.first_rows.elements = vec![0, 4, i32::MAX as u32];
-        subject.file.data[1].columns[2].starts = vec![0, i32::MAX as u32 - 5];
-    });
-    assert_eq!(largest, 0);
-    let past = small(|subject| {
-        set_rows(subject, i32::MAX as u32);
-        subject.file.index.first_rows.elements = vec![0, 4, i32::MAX as u32];
-        subject.file.data[1].columns[2].starts = vec![0, i32::MAX as u32 - 4];
-    });
-    assert_eq!(past, 11);
+    // The last row of tables of many rows, and the one past it, as starts of the
+    // second bucket, which has all but four.
+    let last_start = |rows: u64, start: u64| {
+        small(|subject| {
+            subject.table.widen(0);
+            subject.table.set_rows(rows);
+            subject.file.buckets.size += 24; // Int64 for six starts
+            subject.file.index.widen();
+            subject.file.index.first_rows.elements = vec![0, 4, rows];
+            subject.file.data[1].widen(1);
+            subject.file.data[1].columns[2].starts = vec![0, start];
+        })
+    };
+    for rows in [(1 << 31) - 1, 1 << 31, 1 << 32, (1 << 32) + 5, (1 << 62) - 1, 1 << 62] {
+        assert_eq!(last_start(rows, rows - 5), 0);
+        assert_eq!(last_start(rows, rows - 4), 11);
+        assert_eq!(last_start(rows, (rows - 5) | 1 << 63), 11);
+    }
 }

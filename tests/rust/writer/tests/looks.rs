@@ -32,7 +32,9 @@ fn most_entries_are_short() {
     // The row divided by rows per bucket is not the entry's number.
     let divided = |index: &Index| {
         let last_rows = (0..).zip(&index.last_rows.elements);
-        last_rows.filter(|(entry, last)| **last / index.rows_per_bucket == *entry).count()
+        last_rows
+            .filter(|(entry, last)| **last / u64::from(index.rows_per_bucket) == *entry)
+            .count()
     };
     for subject in standard_files() {
         for index in subject.file.indices.iter().filter(|index| entries(index) > 12) {
@@ -52,7 +54,7 @@ fn sets_of_one_file_differ() {
                 .map(|position| subject.file.looks(&subject.table, *position, row)[0])
                 .collect()
         };
-        let rows = subject.file.border_rows().into_iter().filter(|row| *row < subject.table.rows);
+        let rows = subject.file.border_rows().into_iter().filter(|row| *row < subject.table.rows());
         assert!(rows.into_iter().any(|row| looks(row).len() > 1));
         differing += 1;
     }

@@ -21,7 +21,7 @@ fn every_number_is_what_was_written() {
         let bytes = table.encode();
         let (columns, managers) = (table.columns(), table.managers());
         let counts = [columns.len() as u64, managers.len() as u64];
-        let description = [table.rows.into(), table.endianness.into(), counts[0], counts[1], 0];
+        let description = [table.rows(), table.endianness.into(), counts[0], counts[1], 0];
         assert_eq!(numbers::description(&bytes), Ok(description), "table {number}");
         let mut before = 0; // columns are described in stored order
         for (position, column) in columns.iter().enumerate() {

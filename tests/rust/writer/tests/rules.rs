@@ -69,7 +69,15 @@ fn samples_are_listed() {
          14 CORR_PRODUCT Int 8 4\n"
     );
     // Too long; no mark; Table passes the file's end.
-    assert_eq!(listings[3..], ["refused 4 65536\n", "refused 1 0\n", "refused 1 4\n"]);
+    assert_eq!(listings[3..6], ["refused 4 65536\n", "refused 1 0\n", "refused 1 4\n"]);
+    assert_eq!(
+        listings[6],
+        "rows 5000000000 columns 4\n\
+         0 TIME double 1 0\n\
+         1 ANTENNA1 Int 1 0\n\
+         2 SCAN_NUMBER Int 1 0\n\
+         3 FLAG_ROW Bool 1 0\n"
+    );
 }
 
 #[test]
@@ -138,9 +146,20 @@ fn records_are_passed_over() {
 
 #[test]
 fn table_fields() {
-    assert_eq!(small(|table| (table.rows, table.column_set.rows) = (1 << 31, 1 << 31)), 4);
-    assert_eq!(small(|table| (table.rows, table.column_set.rows) = (i32::MAX as u32, 1 << 31)), 4);
+    assert_eq!(small(|table| table.set_rows(1 << 31)), 0);
+    assert_eq!(small(|table| table.set_rows(u32::MAX.into())), 0);
+    assert_eq!(small(|table| table.header_rows = 1 << 31), 6);
     assert_eq!(small(|table| table.column_set.rows = 8), 6);
+    // Of 64 bits: not compared, but in range.
+    let wide = |rows: i64, header_rows: u32| {
+        small(|table| {
+            table.widen(header_rows);
+            table.set_rows(rows as u64);
+        })
+    };
+    assert_eq!(wide(7, 8), 0);
+    assert_eq!(wide(1 << 62, u32::MAX), 0);
+    assert_eq!([-1, i64::MIN, (1 << 62) + 1, i64::MAX].map(|rows| wide(rows, 7)), [4; 4]);
     assert_eq!(small(|table| table.endianness = 2), 5);
     assert_eq!(small(|table| table.table_type = "RefTable".into()), 2);
     assert_eq!(small(|table| table.table_type = filled(4097)), 2);
@@ -270,7 +289,9 @@ fn last_fields_of_a_column() {
 
 #[test]
 fn managers() {
-    assert_eq!(small(|table| table.column_set.version = -3), 3);
+    for version in [-4, -1, 0, 2] {
+        assert_eq!(small(|table| table.column_set.version = version), 3);
+    }
     assert_eq!(small(|table| table.column_set.manager_count = Some(0)), 4);
     assert_eq!(small(|table| table.column_set.manager_count = Some(17)), 4);
     let two = |change: fn(&mut Table)| {

@@ -90,7 +90,8 @@ fn header_object() {
     assert_eq!(header(|file| file.buckets.mark[3] = 0), 2);
     assert_eq!(header(|file| file.buckets.header.name = "StandardStman".into()), 2);
     assert_eq!(header(|file| file.buckets.header.version = 2), 3);
-    assert_eq!(header(|file| file.buckets.header.version = 4), 3);
+    assert_eq!(header(|file| file.buckets.header.version = 4), 0);
+    assert_eq!(header(|file| file.buckets.header.version = 5), 3);
     // Its container is the file's first 512 bytes.
     assert_eq!(header(|file| file.buckets.header.stated = Some(509)), 1);
     assert_eq!(header(|file| file.buckets.header.stated = Some(508)), 7);
@@ -103,7 +104,7 @@ fn header_object() {
     assert_eq!(
         header(|file| {
             file.buckets.torn_at = Some(74);
-            file.buckets.header.version = 4;
+            file.buckets.header.version = 2;
         }),
         3
     );
@@ -201,7 +202,11 @@ fn index_text() {
     assert_eq!(small(|subject| subject.file.index_length = Some(135)), 7);
     assert_eq!(small(|subject| subject.file.index_count = Some(2)), 1);
     assert_eq!(index(|index| index.mark[0] = 0xBF), 2);
-    assert_eq!(index(|index| index.header.version = 2), 3);
+    assert_eq!(index(|index| index.header.version = 0), 3);
+    assert_eq!(index(|index| index.header.version = 3), 3);
+    assert_eq!(index(|index| index.header.version = 2), 1); // of last rows of 4 bytes
+    assert_eq!(index(|index| index.last_rows.wide = true), 7);
+    assert_eq!(index(Index::widen), 0);
     assert_eq!(index(|index| index.header.stated = Some(131)), 1);
     assert_eq!(index(|index| index.header.extra = vec![0]), 7);
     assert_eq!(index(|index| index.rows_per_bucket = 0), 4);
@@ -286,10 +291,9 @@ fn free_list() {
 
 #[test]
 fn rows_and_buckets() {
-    let entries = |rows: u32, last_rows: &[u32], buckets: &[u32]| {
+    let entries = |rows: u64, last_rows: &[u64], buckets: &[u32]| {
         small(|subject| {
-            subject.table.rows = rows;
-            subject.table.column_set.rows = rows;
+            subject.table.set_rows(rows);
             subject.file.indices[0].last_rows.elements = last_rows.to_vec();
             subject.file.indices[0].buckets.elements = buckets.to_vec();
         })
@@ -304,7 +308,7 @@ fn rows_and_buckets() {
     assert_eq!(entries(4, &[3, 3], &[2, 0]), 11);
     assert_eq!(entries(7, &[], &[]), 11);
     assert_eq!(entries(0, &[], &[]), 0);
-    assert_eq!(entries(0, &[u32::MAX], &[2]), 11);
+    assert_eq!(entries(0, &[u32::MAX.into()], &[2]), 11);
     assert_eq!(entries(7, &[3, 6], &[2, 2]), 11);
     assert_eq!(entries(7, &[3, 6], &[2, 5]), 11);
     assert_eq!(entries(7, &[3, 6], &[2, 3]), 11); // an index bucket
@@ -345,8 +349,7 @@ fn columns_and_extents() {
     // Extents are judged without rows too.
     let no_rows = |offset| {
         small(|subject| {
-            subject.table.rows = 0;
-            subject.table.column_set.rows = 0;
+            subject.table.set_rows(0);
             subject.file.indices = vec![Index::new(4, 3, &[])];
             subject.table.columns_mut()[2].info.offset = offset;
         })

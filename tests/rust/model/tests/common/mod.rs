@@ -112,6 +112,19 @@ pub fn table_with(
     rows: u32,
     columns: &[Column],
 ) -> Vec<u8> {
+    let column_set = [(-2_i32).to_be_bytes().to_vec(), uint(rows)].concat();
+    table_rows(endianness, manager, info, (rows, column_set), columns)
+}
+
+/// The same with this row count in Table's header, and these bytes of
+/// ColumnSet's version and row count.
+pub fn table_rows(
+    endianness: u32,
+    manager: &str,
+    info: Vec<u8>,
+    (rows, column_set): (u32, Vec<u8>),
+    columns: &[Column],
+) -> Vec<u8> {
     let descriptions: Vec<Vec<u8>> = columns.iter().map(Column::description).collect();
     let infos: Vec<Vec<u8>> = columns.iter().map(Column::info).collect();
     let description = object(
@@ -128,8 +141,7 @@ pub fn table_with(
         ],
     );
     let column_set = [
-        (-2_i32).to_be_bytes().to_vec(), // version
-        uint(rows),
+        column_set,
         uint(1), // highest sequence number
         uint(1), // managers
         string(manager),

@@ -5,6 +5,7 @@ use crate::common::{object, uint, uints};
 /// The header's numbers after its Bool.
 #[derive(Clone, Copy)]
 pub struct Header {
+    pub version: u32,
     pub free_buckets: u32,
     pub first_free: i32,
     pub index_buckets: u32,
@@ -14,6 +15,7 @@ pub struct Header {
 }
 
 pub const HEADER: Header = Header {
+    version: 3,
     free_buckets: 0,
     first_free: -1,
     index_buckets: 3,
@@ -36,21 +38,27 @@ pub fn header(header: Header) -> Vec<u8> {
         header.index_length,
         1, // indices
     ];
-    [vec![0xBE; 4], object("StandardStMan", 3, &[vec![1], uints(&numbers)])].concat()
+    [vec![0xBE; 4], object("StandardStMan", header.version, &[vec![1], uints(&numbers)])].concat()
 }
 
 /// The index text of one set.
 pub fn index_text(columns: u32, last_rows: &[u32], buckets: &[u32]) -> Vec<u8> {
-    let block = |numbers: &[u32]| object("Block", 1, &[uint(numbers.len() as u32), uints(numbers)]);
+    index_object(1, columns, uints(last_rows), buckets)
+}
+
+/// The same of this version, with the bytes of its last rows.
+pub fn index_object(version: u32, columns: u32, last_rows: Vec<u8>, buckets: &[u32]) -> Vec<u8> {
+    let count = uint(buckets.len() as u32);
+    let block = |elements: Vec<u8>| object("Block", 1, &[count.clone(), elements]);
     let fields = [
-        uint(last_rows.len() as u32),
+        count.clone(),
         uint(4), // rows per bucket
         uint(columns),
         object("SimpleOrderedMap", 1, &[uints(&[0, 0, 1])]),
         block(last_rows),
-        block(buckets),
+        block(uints(buckets)),
     ];
-    [vec![0xBE; 4], object("SSMIndex", 1, &fields)].concat()
+    [vec![0xBE; 4], object("SSMIndex", version, &fields)].concat()
 }
 
 /// Five buckets of 64 bytes; the text is in 1, 3 and 4, with 56 bytes each.

@@ -49,7 +49,7 @@ pub fn subject(rng: &mut Rng) -> Subject<StandardFile> {
         3 => least + 1,
         _ => rng.within(1..=30.min(5 * least as usize)) as u32,
     };
-    with_sets(rng, rows, sets)
+    with_sets(rng, rows.into(), sets)
 }
 
 /// A set of few columns, or of none.
@@ -66,7 +66,7 @@ fn set(rng: &mut Rng, sets: usize) -> Set {
         0 => 1,
         1 => 8,
         2 => 16,
-        3 if columns.is_empty() => rng.pick(&[8_388_607, 8_388_608]),
+        3 if columns.is_empty() => rng.pick(&[MOST_ROWS as usize - 1, MOST_ROWS as usize]),
         _ => rng.within(2..=9),
     } as u32;
     Set::new(rng, columns, rows_per_bucket)
@@ -88,10 +88,22 @@ fn lay_out(rng: &mut Rng, columns: &mut [Column], rows_per_bucket: u32) -> u32 {
     end
 }
 
-/// Rows up to the limit, in a set without columns.
+/// As many rows as a bucket may hold.
+pub const MOST_ROWS: u32 = 8_388_608;
+
+/// Rows beside 2^31 and 2^32, and more, in a set without columns.
 fn many_rows(rng: &mut Rng) -> Subject<StandardFile> {
-    let rows = rng.pick(&[2_147_483_647, 2_147_483_646, 1 << 30]);
-    let set = Set { columns: Vec::new(), rows_per_bucket: 8_388_608, end: 0 };
+    let rows = match rng.below(3) {
+        0 => (1 << 31) + rng.within(0..=2) as u64 - 1,
+        1 => (1 << 32) + rng.within(0..=2) as u64 - 1,
+        _ => (1 << 32) + rng.below(20 * MOST_ROWS as usize) as u64,
+    };
+    without_columns(rng, rows)
+}
+
+/// So many rows in a set without columns, in full buckets.
+pub fn without_columns(rng: &mut Rng, rows: u64) -> Subject<StandardFile> {
+    let set = Set { columns: Vec::new(), rows_per_bucket: MOST_ROWS, end: 0 };
     with_sets(rng, rows, vec![set])
 }
 
@@ -103,22 +115,22 @@ fn many_entries(rng: &mut Rng) -> Subject<StandardFile> {
     let least = sets.iter().map(|set| set.rows_per_bucket as usize).min().unwrap_or(1);
     let size = sets.iter().map(|set| set.end).max().unwrap_or(0).max(16);
     let most = rng.pick(&[20, 30, 40, 80, 150, 300]).min(30_000 / size as usize).max(10);
-    let rows = (least * rng.within(10..=most)).min(1000) as u32;
+    let rows = (least * rng.within(10..=most)).min(1000) as u64;
     with_sets(rng, rows, sets)
 }
 
 /// The table and file of these sets.
-fn with_sets(rng: &mut Rng, rows: u32, sets: Vec<Set>) -> Subject<StandardFile> {
+fn with_sets(rng: &mut Rng, rows: u64, sets: Vec<Set>) -> Subject<StandardFile> {
     let parts = |set: Set| match rows {
-        0..=1000 => (lean::parts(rng, rows, set.rows_per_bucket), set),
-        _ => (full_parts(rows, set.rows_per_bucket), set),
+        0..=1000 => (lean::parts(rng, rows, set.rows_per_bucket.into()), set),
+        _ => (full_parts(rows, set.rows_per_bucket.into()), set),
     };
     let sets = sets.into_iter().map(parts).collect();
     with_parts(rng, rows, sets)
 }
 
 /// The same, of sets whose buckets hold so many rows each.
-pub fn with_parts(rng: &mut Rng, rows: u32, sets: Vec<(Vec<u32>, Set)>) -> Subject<StandardFile> {
+pub fn with_parts(rng: &mut Rng, rows: u64, sets: Vec<(Vec<u64>, Set)>) -> Subject<StandardFile> {
     let endianness = rng.below(2) as u32;
     let least_size = sets.iter().map(|(_, set)| set.end).max().unwrap_or(0).max(16);
     let mut columns = Vec::new();
@@ -126,6 +138,9 @@ pub fn with_parts(rng: &mut Rng, rows: u32, sets: Vec<(Vec<u32>, Set)>) -> Subje
     for (number, (parts, set)) in sets.into_iter().enumerate() {
         let mut index = Index::new(set.rows_per_bucket, set.columns.len(), &entries(&parts));
         index.free_space = free_space(rng);
+        if rng.chance(1, 2) {
+            index.widen();
+        }
         indices.push(index);
         columns.extend(set.columns.into_iter().map(|column| {
             let offset = column.info.offset;
@@ -140,7 +155,8 @@ pub fn with_parts(rng: &mut Rng, rows: u32, sets: Vec<(Vec<u32>, Set)>) -> Subje
         let own = columns.filter(|c| c.info.manager == number && c.info.set == set as u32);
         index.columns = own.count() as i32;
     }
-    let buckets = Buckets::new("StandardStMan", 3, endianness, 16, 0);
+    let version = rng.pick(&[3, 4]);
+    let buckets = Buckets::new("StandardStMan", version, endianness, 16, 0);
     let mut file = StandardFile::new(buckets, Vec::new(), indices);
     place_buckets(rng, &mut file, least_size);
     fill(rng, &mut file);
@@ -149,9 +165,9 @@ pub fn with_parts(rng: &mut Rng, rows: u32, sets: Vec<(Vec<u32>, Set)>) -> Subje
 
 /// The entries of buckets with so many rows each; their numbers are chosen
 /// later.
-pub fn entries(parts: &[u32]) -> Vec<(u32, u32)> {
+pub fn entries(parts: &[u64]) -> Vec<(u64, u32)> {
     let mut rows = 0;
-    let entry = |part: &u32| {
+    let entry = |part: &u64| {
         rows += part;
         (rows - 1, 0)
     };
@@ -159,7 +175,7 @@ pub fn entries(parts: &[u32]) -> Vec<(u32, u32)> {
 }
 
 /// Full buckets only.
-fn full_parts(rows: u32, most: u32) -> Vec<u32> {
+fn full_parts(rows: u64, most: u64) -> Vec<u64> {
     let mut parts = vec![most; (rows / most) as usize];
     if !rows.is_multiple_of(most) {
         parts.push(rows % most);
