@@ -3,7 +3,10 @@
 #include "files.h"
 #include "helvidrane.h"
 
-/* Where the header's numbers begin, in either byte order: all before them has the same length in every header that is right. */
+/*
+ * Where the header's numbers begin, in either byte order and version: all before them has the same length in every header that is
+ * right.
+ */
 enum { BUCKET_SIZE_AT = 30, FIRST_INDEX_BUCKET_AT = 54, INDEX_OFFSET_AT = 58, INDEX_LENGTH_AT = 66 };
 
 /* The number of the next bucket, twice, at the start of a bucket. */

@@ -1,7 +1,8 @@
 /*
- * Asks every question of include/helvidrane.h: of files on the samples `small`, `little` and `arrays`, accepted, refused with each
- * number and the byte, with `out` shorter and longer than the answer, with plans that are too short, and with null pointers to runs
- * of 0 elements; and of type numbers. The answers are those of RULES.md and of the independent model. It is C and C++.
+ * Asks every question of include/helvidrane.h: of files on the samples `small`, `little`, `arrays` and `survey`, accepted, refused
+ * with each number and the byte, with row numbers of 4 and of 8 bytes, with `out` shorter and longer than the answer, with plans
+ * that are too short, and with null pointers to runs of 0 elements; and of type numbers. The answers are those of RULES.md and of
+ * the independent model. It is C and C++.
  *
  * questions SAMPLES: exits with 1 at the first difference.
  */
@@ -287,6 +288,7 @@ static void ask_of_cells(void)
                                             {2, 0, HV_TYPE_DOUBLE, 1, 64, 0, 17, 4, 64}};
     /* Cases A, B, C and D. */
     const uint64_t cells[4][4] = {{5, 2, 4296, 64}, {2, 2, 5384, 64}, {5, 1, 4225, 1}, {6, 0, 4160, 32}};
+    const uint64_t absent[] = {7, (UINT64_C(1) << 32) + 5, UINT64_MAX};
     int i, k;
 
     number = 0;
@@ -325,12 +327,12 @@ static void ask_of_cells(void)
         short_plans(VIEW_PLANNED, __LINE__);
     }
 
-    /* A row too many, also where the column is Bool: 9 comes before 14. */
+    /* A row too many, also where the column is Bool: 9 comes before 14. Cut to 32 bits, the second is row 5. */
     for (i = 0; i < 3; i++) {
         number = (uint64_t)i;
         set_plan(plans[i]);
-        for (k = 0; k < 2; k++) {
-            row = k == 0 ? 7 : UINT64_MAX;
+        for (k = 0; k < 3; k++) {
+            row = absent[k];
             REFUSED(PLACE, HV_REFUSED_ROW);
             REFUSED(PLACE_PLANNED, HV_REFUSED_ROW);
             REFUSED(VIEW, HV_REFUSED_ROW);
@@ -348,11 +350,11 @@ static void ask_of_cells(void)
         REFUSED(VIEW_PLANNED, refusal);
     }
 
-    /* The index length is 134. */
+    /* The index length is that of the text. */
     row = 5;
     number = 0;
     set_plan(plans[0]);
-    for (room_len = 0; room_len < 134; room_len += 19) {
+    for (room_len = 0; room_len < text.len; room_len += 19) {
         REFUSED(CHECK, HV_REFUSED_ROOM);
         REFUSED(PLAN, HV_REFUSED_ROOM);
         REFUSED(PLACE, HV_REFUSED_ROOM);
@@ -363,7 +365,7 @@ static void ask_of_cells(void)
     room_len = HV_ROOM_MOST;
     ACCEPTED(CHECK, bucket_size);
     ACCEPTED(PLAN, plans[0]);
-    room_len = 134;
+    room_len = text.len;
 }
 
 /* The bytes of a cell of `little` are those of `small`, the last first. */
@@ -446,10 +448,13 @@ static void ask_of_faults(void)
         {0, 0, HV_REFUSED_NAME, 0},           /* the mark */
         {0x0f, 'f', HV_REFUSED_NAME, 8},      /* Table's name: a String begins with its length */
         {0x14, 9, HV_REFUSED_VERSION, 0x11},  /* Table's version */
-        {0x15, 0xff, HV_REFUSED_RANGE, 0x15}, /* the row count */
+        {0x15, 0xff, HV_REFUSED_FACTS, 0x32d}, /* the row count: it has no range, but ColumnSet has another */
         {0x1c, 2, HV_REFUSED_VALUE, 0x19},    /* the endianness */
         {0x2a, 'E', HV_REFUSED_NAME, 0x1d},   /* the table type */
         {0x0e2, 0, HV_REFUSED_RANGE, 0x0df},  /* the first column's name, empty */
+        {0x32c, 0xff, HV_REFUSED_VERSION, 0x329}, /* ColumnSet's version: -1 */
+        {0x32c, 0xfc, HV_REFUSED_VERSION, 0x329}, /* -4 */
+        {0x32c, 0xfd, HV_REFUSED_END, 0x33d}, /* -3: the row count has 8 bytes, and a name begins where there is none */
         {0x330, 8, HV_REFUSED_FACTS, 0x32d},  /* ColumnSet's row count, which is read after Table's */
         {0x38d, 16, HV_REFUSED_LENGTH, 0x38a}, /* DMInfo's length */
         {0x38d, 25, HV_REFUSED_END, 0x38a},   /* DMInfo past Table's end: its length too */
@@ -461,7 +466,8 @@ static void ask_of_faults(void)
     };
     static const struct fault in_file[] = {
         {0, 0, HV_REFUSED_NAME, 0},           /* the mark */
-        {0x1c, 9, HV_REFUSED_VERSION, 0x19},  /* the header's version */
+        {0x1c, 2, HV_REFUSED_VERSION, 0x19},  /* the header's version */
+        {0x1c, 5, HV_REFUSED_VERSION, 0x19},
         {0x1d, 2, HV_REFUSED_VALUE, 0x1d},    /* the endianness */
         {0x1d, 0, HV_REFUSED_FACTS, 0x1d},    /* the other endianness */
         {0x21, 0, HV_REFUSED_RANGE, 0x1e},    /* the bucket size */
@@ -472,7 +478,9 @@ static void ask_of_faults(void)
         {0x45, 135, HV_REFUSED_LENGTH, 134},  /* the index length: the first byte of the text that is left over */
         {0x45, 133, HV_REFUSED_END, 4},       /* SSMIndex is past the end of the text: its header */
         {584, 0, HV_REFUSED_NAME, 0},         /* SSMIndex's mark: byte 0 of the text */
-        {607, 2, HV_REFUSED_VERSION, 20},     /* its version */
+        {607, 0, HV_REFUSED_VERSION, 20},     /* its version */
+        {607, 3, HV_REFUSED_VERSION, 20},
+        {607, 2, HV_REFUSED_END, 105},        /* version 2: last rows of 8 bytes, and the Block has room for one */
         {615, 0, HV_REFUSED_RANGE, 28},       /* rows per bucket */
         {623, 41, HV_REFUSED_LENGTH, 36},     /* the map's length */
         {713, 'N', HV_REFUSED_NAME, 40},      /* the map's name, which begins in the bucket before */
@@ -549,7 +557,8 @@ static void ask_of_little_faults(void)
         {0x07, 1, HV_REFUSED_END, 4},        /* its highest byte: it ends behind the 512 bytes */
         {0x08, 14, HV_REFUSED_NAME, 8},      /* the length of its name */
         {0x0b, 1, HV_REFUSED_END, 8},        /* its highest byte */
-        {0x19, 9, HV_REFUSED_VERSION, 0x19}, /* the header's version */
+        {0x19, 2, HV_REFUSED_VERSION, 0x19}, /* the header's version */
+        {0x19, 5, HV_REFUSED_VERSION, 0x19},
         {0x1c, 3, HV_REFUSED_VERSION, 0x19}, /* its highest byte */
         {0x1d, 2, HV_REFUSED_VALUE, 0x1d},   /* the endianness */
         {0x1d, 1, HV_REFUSED_FACTS, 0x1d},   /* the other endianness */
@@ -562,7 +571,8 @@ static void ask_of_little_faults(void)
         {0x42, 133, HV_REFUSED_END, 4},      /* SSMIndex is past the end of the text: its header */
         {0x46, 2, HV_REFUSED_END, 134},      /* the number of indices: there is no second mark */
         {584, 0, HV_REFUSED_NAME, 0},        /* SSMIndex's mark: byte 0 of the text */
-        {604, 2, HV_REFUSED_VERSION, 20},    /* its version */
+        {604, 3, HV_REFUSED_VERSION, 20},    /* its version */
+        {604, 2, HV_REFUSED_END, 105},       /* version 2: last rows of 8 bytes, and the Block has room for one */
         {612, 0, HV_REFUSED_RANGE, 28},      /* rows per bucket */
         {620, 41, HV_REFUSED_LENGTH, 36},    /* the map's length */
         {713, 'N', HV_REFUSED_NAME, 40},     /* the map's name, which begins in the bucket before */
@@ -723,6 +733,218 @@ static void ask_of_info(const char *samples)
     refused_from(DESCRIPTION, HV_REFUSED_LENGTH, 914, __LINE__);
 }
 
+static void put(struct bytes *bytes, size_t at, uint64_t value, size_t width, int is_big)
+{
+    size_t i;
+
+    for (i = 0; i < width; i++)
+        bytes->at[at + i] = (uint8_t)(value >> 8 * (is_big ? width - 1 - i : i));
+}
+
+static void insert(struct bytes *bytes, size_t at, size_t more)
+{
+    memmove(bytes->at + at + more, bytes->at + at, bytes->len - at);
+    bytes->len += more;
+}
+
+/*
+ * Row numbers of 8 bytes in the small tables. ColumnSet is -3: its version stands at 809, and its row count at 813. The count in
+ * Table's header, at 21, is not compared with it.
+ */
+static void widen_table(uint64_t rows, uint64_t in_header)
+{
+    put(&table, 21, in_header, 4, 1);
+    put(&table, 809, 0xfffffffd, 4, 1);
+    insert(&table, 813, 4);
+    put(&table, 813, rows, 8, 1);
+    add_at(4, 4);
+}
+
+/*
+ * SSMIndex is 2. The index text has 142 bytes: SSMIndex begins at 4, its version at 20, the Block of last rows at 76, its count at
+ * 93, the last rows at 97 and 105, the Block of bucket numbers at 113. The second of the last rows lies in two buckets.
+ */
+static void widen_index(uint64_t first, uint64_t second, int is_big)
+{
+    insert(&text, 105, 8);
+    put(&text, 4, 138, 4, is_big);
+    put(&text, 20, 2, 4, is_big);
+    put(&text, 76, 37, 4, is_big);
+    put(&text, 97, first, 8, is_big);
+    put(&text, 105, second, 8, is_big);
+    put(&file, 66, text.len, 4, is_big);
+    memcpy(file.at + 584, text.at, 56);
+    memcpy(file.at + 712, text.at + 56, 56);
+    memcpy(file.at + 776, text.at + 112, 30);
+    room_len = text.len;
+}
+
+/* StandardStMan is 4, which changes nothing else. */
+static void widen_header(int is_big)
+{
+    put(&file, 25, 4, 4, is_big);
+}
+
+static const char *const by_order[] = {"little", "small"};
+
+/* ColumnSet -3, StandardStMan 4 and SSMIndex 2, each on its own and together: the answers are those of the small file. */
+static void ask_of_wide_files(const char *samples)
+{
+    int is_big, which;
+
+    for (is_big = 0; is_big < 2; is_big++)
+        for (which = 1; which < 8; which++) {
+            const uint64_t description[] = {7, (uint64_t)is_big, 3, 1, 0};
+            load(samples, by_order[is_big]);
+            if (which & 1)
+                widen_table(7, which == 7 ? 0xffffffff : 0);
+            if (which & 2)
+                widen_header(is_big);
+            if (which & 4)
+                widen_index(3, 6, is_big);
+            ACCEPTED(DESCRIPTION, description);
+            accepted_time(__LINE__);
+            if (which == 7)
+                ask_of_cells();
+        }
+}
+
+/* Row counts of ColumnSet -3, up to 2^62, and of -2, every uInt. The file has 7 rows, and no other count fits. */
+static void ask_of_row_counts(const char *samples)
+{
+    static const uint64_t in_range[] = {
+        0, 6, 7, 8, 0x7fffffff, 0x80000000, 0xffffffff, UINT64_C(1) << 32, (UINT64_C(1) << 32) + 7, UINT64_C(5000000000),
+        (UINT64_C(1) << 53) + 1, UINT64_C(7) << 32, UINT64_C(0x3fffffffffffffff), UINT64_C(1) << 62,
+    };
+    static const uint64_t outside[] = {
+        (UINT64_C(1) << 62) + 1, UINT64_C(0x7fffffffffffffff), UINT64_C(1) << 63, (UINT64_C(1) << 63) + 7, UINT64_MAX - 6,
+        UINT64_MAX,
+    };
+    uint64_t description[] = {0, 1, 3, 1, 0};
+    size_t i;
+
+    for (i = 0; i < sizeof in_range / sizeof *in_range; i++) {
+        description[HV_DESCRIPTION_ROWS] = in_range[i];
+        load(samples, "small");
+        widen_table(in_range[i], 7);
+        ACCEPTED(DESCRIPTION, description);
+        if (in_range[i] == 7)
+            accepted_time(__LINE__);
+        else
+            refused_from(CHECK, HV_REFUSED_MAP, 0, __LINE__);
+        if (in_range[i] > 0xffffffff)
+            continue;
+        load(samples, "small");
+        put(&table, 21, in_range[i], 4, 1);
+        put(&table, 813, in_range[i], 4, 1);
+        ACCEPTED(DESCRIPTION, description);
+        put(&table, 813, in_range[i] + 1, 4, 1);
+        refused_from(DESCRIPTION, HV_REFUSED_FACTS, 813, __LINE__);
+    }
+    for (i = 0; i < sizeof outside / sizeof *outside; i++) {
+        load(samples, "small");
+        widen_table(outside[i], 7);
+        refused_from(DESCRIPTION, HV_REFUSED_RANGE, 813, __LINE__);
+    }
+}
+
+/* A negative last row gives 4 where it stands; one that is too large is left to the map. */
+static void ask_of_wide_faults(const char *samples)
+{
+    static const struct fault in_table[] = {
+        {812, 0xfc, HV_REFUSED_VERSION, 809}, /* ColumnSet -4 */
+        {812, 0xfe, HV_REFUSED_FACTS, 813},   /* -2: the row count has 4 bytes, and they are 0 */
+        {809, 0x7f, HV_REFUSED_VERSION, 809}, /* it is big endian */
+    };
+    static const struct {
+        uint64_t first, second;
+        enum hv_number refusal;
+        uint64_t byte;
+    } last_rows[] = {
+        {UINT64_C(1) << 63, 6, HV_REFUSED_RANGE, 97},
+        {UINT64_MAX, 6, HV_REFUSED_RANGE, 97},
+        {3, UINT64_MAX, HV_REFUSED_RANGE, 105},
+        {3, (UINT64_C(1) << 63) + 6, HV_REFUSED_RANGE, 105},
+        {UINT64_MAX, UINT64_MAX, HV_REFUSED_RANGE, 97},
+        {3, UINT64_C(0x7fffffffffffffff), HV_REFUSED_MAP, 0},
+        {3, (UINT64_C(1) << 62) + 6, HV_REFUSED_MAP, 0},
+        {3, (UINT64_C(1) << 32) + 6, HV_REFUSED_MAP, 0}, /* cut to 32 bits, it is 6 */
+        {(UINT64_C(1) << 32) + 3, 6, HV_REFUSED_MAP, 0},
+        {3, UINT64_C(6) << 32, HV_REFUSED_MAP, 0},
+    };
+    size_t i;
+    int is_big;
+
+    load(samples, "small");
+    widen_table(7, 7);
+    REFUSED_EACH(&table, DESCRIPTION, in_table);
+    for (is_big = 0; is_big < 2; is_big++) {
+        load(samples, by_order[is_big]);
+        widen_index(3, 6, is_big);
+        put(&file, 604, 3, 4, is_big);
+        refused_from(CHECK, HV_REFUSED_VERSION, 20, __LINE__);
+        put(&file, 604, 1, 4, is_big); /* last rows of 4 bytes: the Block has 8 bytes left over */
+        refused_from(CHECK, HV_REFUSED_LENGTH, 76, __LINE__);
+        put(&file, 604, 2, 4, is_big);
+        put(&file, 749, 3, 4, is_big);
+        refused_from(CHECK, HV_REFUSED_FACTS, 93, __LINE__);
+        put(&file, 749, 2, 4, is_big);
+        put(&file, 732, 36, 4, is_big);
+        refused_from(CHECK, HV_REFUSED_END, 105, __LINE__);
+        put(&file, 753, UINT64_MAX, 8, is_big); /* an earlier last row is judged before a later one that does not fit */
+        refused_from(CHECK, HV_REFUSED_RANGE, 97, __LINE__);
+        for (i = 0; i < sizeof last_rows / sizeof *last_rows; i++) {
+            load(samples, by_order[is_big]);
+            widen_index(last_rows[i].first, last_rows[i].second, is_big);
+            refused_from(CHECK, last_rows[i].refusal, last_rows[i].byte, __LINE__);
+        }
+    }
+}
+
+/*
+ * SSMIndex 2 in one of the two sets of `arrays`, or in both: each set has a version of its own. The index text of table.f0 is in one
+ * bucket, from 12050 on, with 126 bytes for each set; a last row of 8 bytes takes 4 more.
+ */
+static void ask_of_mixed_sets(const char *samples)
+{
+    const uint64_t uvw[] = {6720, 192, 0, 1, 0}, flag_corr[] = {45132, 4, 0, 1, 0};
+    size_t which, set, at;
+
+    for (which = 1; which < 4; which++) {
+        read_file(&table, samples, "arrays", "table.dat");
+        read_file(&file, samples, "arrays", "table.f0");
+        text.len = 252;
+        for (set = 2; set-- > 0;) { /* the second set first, so that the first is where it was */
+            if (!(which >> set & 1))
+                continue;
+            at = 12050 + 126 * set;
+            memmove(file.at + at + 105, file.at + at + 101, 200);
+            put(&file, at + 4, 126, 4, 0);
+            put(&file, at + 20, 2, 4, 0);
+            put(&file, at + 76, 29, 4, 0);
+            put(&file, at + 97, 19, 8, 0);
+            text.len += 4;
+        }
+        put(&file, 66, text.len, 4, 0);
+        memcpy(text.at, file.at + 12050, text.len);
+        room_len = text.len;
+        row = 3;
+        number = 3; /* UVW, in the first set */
+        ACCEPTED(PLACE, uvw);
+        number = 13; /* FLAG_CORR, in the second */
+        ACCEPTED(PLACE, flag_corr);
+
+        /* Of the second set: its last row, if it has 8 bytes, is negative; another version. */
+        at = which & 1 ? 130 : 126;
+        if (which & 2) {
+            file.at[12050 + at + 104] = 0x80;
+            refused(PLACE, HV_REFUSED_RANGE, at + 97, __LINE__);
+        }
+        put(&file, 12050 + at + 20, 3, 4, 0);
+        refused(PLACE, HV_REFUSED_VERSION, at + 20, __LINE__);
+    }
+}
+
 /* Number and byte of every question over table.f1 of `arrays`, by SCAN_NUMBER, which its manager keeps. */
 static void blamed_incremental(enum hv_number refusal, uint64_t byte, int line)
 {
@@ -808,13 +1030,15 @@ static void ask_of_incremental(const char *samples)
         {0x25, 4, HV_REFUSED_END, 986},         /* the number of buckets: the file's end */
         {0x383, 0, HV_REFUSED_NAME, 0x380},     /* ISMIndex's mark */
         {0x384, 87, HV_REFUSED_END, 0x384},     /* ISMIndex past the end of the file: its header */
-        {0x394, 2, HV_REFUSED_VERSION, 0x394},  /* its version */
+        {0x394, 0, HV_REFUSED_VERSION, 0x394},  /* its version */
+        {0x394, 3, HV_REFUSED_VERSION, 0x394},
+        {0x394, 2, HV_REFUSED_END, 0x3b9},      /* version 2: first rows of 8 bytes, and the Block has room for one */
         {0x3ad, 4, HV_REFUSED_FACTS, 0x3ad},    /* the count of first rows */
         {0x39c, 34, HV_REFUSED_LENGTH, 0x39c},  /* the length of the first Block: a byte is left over */
         {0x3bd, 30, HV_REFUSED_END, 0x3bd},     /* that of the second: it is past the end of ISMIndex */
         {0x3bd, 28, HV_REFUSED_END, 0x3d6},     /* and now its last element does not fit */
         {0x3b5, 0, HV_REFUSED_MAP, 0},          /* the second of the first rows */
-        {0x303, 1, HV_REFUSED_VERSION, 0x300},  /* the high byte of x in bucket 2, which is the first of the index */
+        {0x303, 1, HV_REFUSED_MAP, 0},          /* starts of 8 bytes in bucket 2, the first of the index: the first is not 0 */
         {0x300, 126, HV_REFUSED_END, 0x37e},    /* x: the index part has two bytes, and the bucket ends in a number */
         {0x300, 128, HV_REFUSED_END, 0x380},    /* x: it has none */
         {0x300, 3, HV_REFUSED_MAP, 0},          /* x below 4 */
@@ -884,6 +1108,259 @@ static void ask_of_incremental(const char *samples)
         blamed_incremental(HV_REFUSED_END, i < 896 ? header : index, __LINE__);
     }
     file.len = before;
+}
+
+/*
+ * ISMIndex 2, in `arrays`: its version stands at 0x394, the Block of first rows at 0x39c, the first rows, of 8 bytes, at 0x3b1,
+ * 0x3b9 and 0x3c1.
+ */
+static void widen_first_rows(uint64_t second, uint64_t third)
+{
+    insert(&file, 0x3bd, 12);
+    put(&file, 0x384, 98, 4, 0);
+    put(&file, 0x394, 2, 4, 0);
+    put(&file, 0x39c, 45, 4, 0);
+    put(&file, 0x3b1, 0, 8, 0);
+    put(&file, 0x3b9, second, 8, 0);
+    put(&file, 0x3c1, third, 8, 0);
+}
+
+/* A bucket of `arrays`, of 128 bytes and three columns, with starts of 8 bytes: a high byte above 0 in its first number says so. */
+static void widen_bucket(size_t at, uint8_t high)
+{
+    uint8_t old[128];
+    size_t column, from, to, i;
+
+    memcpy(old, file.at + at, sizeof old);
+    from = old[0];
+    to = at + from;
+    memset(file.at + to, 0, sizeof old - from);
+    for (column = 0; column < 3; column++) {
+        size_t count = old[from];
+        memcpy(file.at + to, old + from, 4);
+        for (i = 0; i < count; i++)
+            memcpy(file.at + to + 4 + 8 * i, old + from + 4 + 4 * i, 4);
+        memcpy(file.at + to + 4 + 8 * count, old + from + 4 + 4 * count, 4 * count);
+        from += 4 + 8 * count;
+        to += 4 + 12 * count;
+    }
+    file.at[at + 3] = high;
+}
+
+/* The places of every row and column of `arrays` in table.f1. */
+static void take_places(uint64_t (*places)[3])
+{
+    static const uint64_t columns[] = {0, 4, 5};
+    size_t k;
+
+    for (row = 0; row < 20; row++)
+        for (k = 0; k < 3; k++) {
+            number = columns[k];
+            HOLD(ask(PLACE, HV_PLACE_LEN) == HV_ACCEPTED, __LINE__);
+            places[row][k] = out[HV_PLACE_FIRST_BIT];
+        }
+}
+
+/* ISMIndex 2, and buckets 2 and 0 with starts of 8 bytes, each on its own and together: the places stay. */
+static void ask_of_wide_incremental(const char *samples)
+{
+    static const struct {
+        uint64_t second, third;
+        enum hv_number refusal;
+        uint64_t byte;
+    } first_rows[] = {
+        {UINT64_MAX, 20, HV_REFUSED_RANGE, 0x3b9},
+        {12, (UINT64_C(1) << 63) + 20, HV_REFUSED_RANGE, 0x3c1},
+        {UINT64_C(1) << 63, UINT64_MAX, HV_REFUSED_RANGE, 0x3b9},
+        {12, (UINT64_C(1) << 32) + 20, HV_REFUSED_MAP, 0}, /* cut to 32 bits, it is 20 */
+        {(UINT64_C(1) << 32) + 12, 20, HV_REFUSED_MAP, 0},
+        {12, (UINT64_C(1) << 62) + 1, HV_REFUSED_MAP, 0},
+    };
+    /* Bucket 2 with starts of 8 bytes: the starts of TIME at 0x32c, 0x334 and 0x33c, its offsets from 0x344 on. */
+    static const struct fault in_bucket[] = {
+        {0x333, 0x80, HV_REFUSED_MAP, 0}, /* a negative start, which should be 0 */
+        {0x33b, 0x80, HV_REFUSED_MAP, 0}, /* a later one */
+        {0x338, 1, HV_REFUSED_MAP, 0},    /* 2^32 + 4: it is not below the bucket's rows, but is if it is cut */
+        {0x334, 12, HV_REFUSED_MAP, 0},   /* nor is 12 */
+        {0x344, 29, HV_REFUSED_MAP, 0},   /* an offset */
+        {0x300, 3, HV_REFUSED_MAP, 0},    /* x, in the low three bytes: below 4 */
+        {0x300, 129, HV_REFUSED_MAP, 0},  /* above the bucket size */
+        {0x302, 1, HV_REFUSED_MAP, 0},    /* 65,576 */
+        {0x300, 128, HV_REFUSED_END, 0x380}, /* the index part has no bytes */
+        {0x303, 0, HV_REFUSED_MAP, 0},    /* starts of 4 bytes: the second is 0 */
+        {0x328, 7, HV_REFUSED_MAP, 0},    /* the number of values */
+    };
+    const uint64_t scan_number[] = {4, 1, HV_TYPE_INT, 1, 32, 0, 0, 0, 128, 0};
+    uint64_t narrow[20][3], wide[20][3];
+    size_t i;
+    int which;
+
+    read_file(&table, samples, "arrays", "table.dat");
+    read_file(&file, samples, "arrays", "table.f1");
+    text.len = 0;
+    room_len = 0;
+    set_plan(scan_number);
+    take_places(narrow);
+    for (which = 1; which < 8; which++) {
+        read_file(&file, samples, "arrays", "table.f1");
+        if (which & 1)
+            widen_bucket(0x300, (uint8_t)(which * 36)); /* 36, 108, 180 or 252: any but 0 */
+        if (which & 2)
+            widen_bucket(0x200, which == 7 ? 255 : 1);
+        if (which & 4)
+            widen_first_rows(12, 20);
+        take_places(wide);
+        HOLD(memcmp(narrow, wide, sizeof wide) == 0, __LINE__);
+        HOLD(wide[7][1] == 6368 && wide[19][0] == 4192, __LINE__);
+    }
+    for (i = 0; i < sizeof in_bucket / sizeof *in_bucket; i++) {
+        read_file(&file, samples, "arrays", "table.f1");
+        widen_bucket(0x300, 1);
+        HOLD(file.at[in_bucket[i].at] != in_bucket[i].byte, __LINE__);
+        file.at[in_bucket[i].at] = in_bucket[i].byte;
+        blamed_incremental(in_bucket[i].refusal, in_bucket[i].field, __LINE__);
+    }
+    for (i = 0; i < sizeof first_rows / sizeof *first_rows; i++) {
+        read_file(&file, samples, "arrays", "table.f1");
+        widen_first_rows(first_rows[i].second, first_rows[i].third);
+        blamed_incremental(first_rows[i].refusal, first_rows[i].byte, __LINE__);
+    }
+    /* The first of the first rows; and one that is too many for the Block. */
+    read_file(&file, samples, "arrays", "table.f1");
+    widen_first_rows(12, 20);
+    put(&file, 0x3b1, UINT64_MAX, 8, 0);
+    blamed_incremental(HV_REFUSED_RANGE, 0x3b1, __LINE__);
+    put(&file, 0x3b1, 0, 8, 0);
+    put(&file, 0x39c, 44, 4, 0);
+    blamed_incremental(HV_REFUSED_END, 0x3c1, __LINE__);
+    put(&file, 0x39c, 45, 4, 0);
+    put(&file, 0x394, 3, 4, 0);
+    blamed_incremental(HV_REFUSED_VERSION, 0x394, __LINE__);
+    put(&file, 0x394, 1, 4, 0); /* first rows of 4 bytes: the Block has 12 bytes left over */
+    blamed_incremental(HV_REFUSED_LENGTH, 0x39c, __LINE__);
+}
+
+/* The next questions are about a column of `survey`; gives its bits. */
+static uint64_t set_column(uint64_t position)
+{
+    static const uint64_t types[] = {HV_TYPE_DOUBLE, HV_TYPE_INT, HV_TYPE_INT, HV_TYPE_BOOL};
+    static const uint64_t bits[] = {64, 32, 32, 8}; /* a Bool has a whole byte in IncrementalStMan */
+    uint64_t numbers[HV_PLAN_LEN] = {0};
+
+    numbers[HV_PLAN_POSITION] = position;
+    numbers[HV_PLAN_DATA_TYPE] = types[position];
+    numbers[HV_PLAN_ELEMENTS] = 1;
+    numbers[HV_PLAN_BITS] = bits[position];
+    numbers[HV_PLAN_BUCKET_SIZE] = 272;
+    number = position;
+    set_plan(numbers);
+    ACCEPTED(PLAN, numbers);
+    return bits[position];
+}
+
+#define SURVEY_ROWS UINT64_C(5000000000)
+
+/*
+ * `survey`: little endian, 5,000,000,000 rows. ColumnSet is -3, at 1140, with its row count at 1144; the count in Table's header is
+ * 0. The columns are TIME, ANTENNA1, SCAN_NUMBER and FLAG_ROW, in a file of IncrementalStMan with buckets of 272 bytes. ISMIndex is
+ * 2: its version is at 1620, the first rows at 1649, 1657, 1665 and 1673. Rows below 4,500,000,000 are in bucket 2, at 1056, whose
+ * starts have 8 bytes; the next 300,000,000 in bucket 0, at 512, and the others in bucket 3, at 1328, whose starts have 4.
+ */
+static void ask_of_survey(const char *samples)
+{
+    /* The first bytes of the four cells: values change on both sides of 2^31 and of 2^32, and at the ends of the buckets. */
+    static const struct {
+        uint64_t row, bytes[4];
+    } cells[] = {
+        {0, {1060, 1100, 1112, 1120}},
+        {5, {1060, 1100, 1112, 1120}},
+        {705032704, {1060, 1100, 1112, 1120}}, /* the row count, cut to 32 bits */
+        {0x7ffffffe, {1060, 1100, 1112, 1120}},
+        {0x7fffffff, {1068, 1100, 1112, 1121}},
+        {0x80000000, {1076, 1104, 1112, 1120}},
+        {0xfffffffe, {1076, 1104, 1112, 1120}},
+        {0xffffffff, {1084, 1104, 1116, 1120}},
+        {UINT64_C(0x100000000), {1092, 1108, 1116, 1121}},
+        {UINT64_C(0x100000001), {1092, 1108, 1116, 1120}},
+        {UINT64_C(0x100000005), {1092, 1108, 1116, 1120}}, /* cut to 32 bits it is row 5, whose cells stand elsewhere */
+        {UINT64_C(4499999999), {1092, 1108, 1116, 1120}},
+        {UINT64_C(4500000000), {516, 532, 536, 544}},
+        {UINT64_C(4649999999), {516, 532, 540, 544}},
+        {UINT64_C(4650000000), {524, 532, 540, 544}},
+        {UINT64_C(4799999999), {524, 532, 540, 544}},
+        {UINT64_C(4800000000), {1332, 1340, 1348, 1352}},
+        {UINT64_C(4999999998), {1332, 1340, 1348, 1352}},
+        {UINT64_C(4999999999), {1332, 1344, 1348, 1353}},
+    };
+    /* Too many; the count and 2^32; 2^62, the most that a table may have; a row above 2^31 that was kept in 32 bits with a sign. */
+    static const uint64_t absent[] = {
+        SURVEY_ROWS, SURVEY_ROWS + 1, SURVEY_ROWS + (UINT64_C(1) << 32), UINT64_C(1) << 62,
+        UINT64_C(0xffffffff80000000), UINT64_MAX,
+    };
+    static const struct fault in_table[] = {
+        {1140, 0x7f, HV_REFUSED_VERSION, 1140}, /* ColumnSet's version */
+        {1143, 0xfe, HV_REFUSED_FACTS, 1144},   /* -2: the row count would be 1, and Table has 0 */
+        {1144, 0x80, HV_REFUSED_RANGE, 1144},   /* a negative row count */
+        {1144, 0x41, HV_REFUSED_RANGE, 1144},   /* one above 2^62 */
+    };
+    static const struct fault of_rows[] = {
+        {1151, 1, HV_REFUSED_MAP, 0}, /* a row more than the file has */
+        {1147, 0, HV_REFUSED_MAP, 0}, /* 2^32 rows less */
+    };
+    static const struct fault in_file[] = {
+        {1620, 3, HV_REFUSED_VERSION, 1620}, /* ISMIndex 3 */
+        {1620, 1, HV_REFUSED_LENGTH, 1628},  /* ISMIndex 1: first rows of 4 bytes, and half of the Block is left over */
+        {1656, 0x80, HV_REFUSED_RANGE, 1649}, /* the first of the first rows is negative */
+        {1664, 0x80, HV_REFUSED_RANGE, 1657}, /* the second */
+        {1680, 0xff, HV_REFUSED_RANGE, 1673}, /* the last */
+        {1680, 0x40, HV_REFUSED_MAP, 0},     /* it is above 2^62 */
+        {1677, 0, HV_REFUSED_MAP, 0},        /* it is 2^32 less */
+        {1059, 0, HV_REFUSED_MAP, 0},        /* starts of 4 bytes in bucket 2 */
+        {1059 + 272, 1, HV_REFUSED_MAP, 0},  /* starts of 8 bytes in bucket 3 */
+    };
+    const uint64_t description[] = {SURVEY_ROWS, 0, 4, 1, 0};
+    const uint64_t bucket_size[] = {272, 0};
+    size_t i;
+    uint64_t position;
+
+    read_file(&table, samples, "survey", "table.dat");
+    read_file(&file, samples, "survey", "table.f0");
+    text.len = 0;
+    room_len = 0;
+    ACCEPTED(DESCRIPTION, description);
+    number = 0;
+    ACCEPTED(CHECK, bucket_size);
+    for (position = 0; position < 4; position++) {
+        uint64_t bits = set_column(position);
+        for (i = 0; i < sizeof cells / sizeof *cells; i++) {
+            const uint64_t place[] = {8 * cells[i].bytes[position], bits, 0, 0, 0};
+            const uint64_t view[] = {cells[i].bytes[position], bits / 8, 0};
+            row = cells[i].row;
+            ACCEPTED(PLACE, place);
+            ACCEPTED(PLACE_PLANNED, place);
+            ACCEPTED(VIEW, view);
+            ACCEPTED(VIEW_PLANNED, view);
+        }
+        for (i = 0; i < sizeof absent / sizeof *absent; i++) {
+            row = absent[i];
+            REFUSED(PLACE, HV_REFUSED_ROW);
+            REFUSED(PLACE_PLANNED, HV_REFUSED_ROW);
+            REFUSED(VIEW, HV_REFUSED_ROW);
+            REFUSED(VIEW_PLANNED, HV_REFUSED_ROW);
+        }
+    }
+    /* ANTENNA1 of row 2^32 is 2, that of row 0 is 0. */
+    HOLD(file.at[1108] == 2 && file.at[1100] == 0, __LINE__);
+
+    /* Table's count is not compared. */
+    memset(table.at + 21, 0xff, 4);
+    ACCEPTED(DESCRIPTION, description);
+    number = 0;
+    ACCEPTED(CHECK, bucket_size);
+    memset(table.at + 21, 0, 4);
+    REFUSED_EACH(&table, DESCRIPTION, in_table);
+    REFUSED_EACH(&table, CHECK, of_rows);
+    REFUSED_EACH(&file, CHECK, in_file);
 }
 
 /* The bits of elements: each type's, and none of a String and of numbers that are no type's or only end as one does. */
@@ -967,8 +1444,14 @@ int main(int argc, char **argv)
         ask_of_long_table(0);
         ask_of_byte_orders(argv[1]);
         ask_of_info(argv[1]);
+        ask_of_wide_files(argv[1]);
+        ask_of_row_counts(argv[1]);
+        ask_of_wide_faults(argv[1]);
+        ask_of_mixed_sets(argv[1]);
         ask_of_incremental(argv[1]);
         ask_of_incremental_info(argv[1]);
+        ask_of_wide_incremental(argv[1]);
+        ask_of_survey(argv[1]);
     }
     return 0;
 }
