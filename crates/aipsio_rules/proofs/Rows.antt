@@ -18,24 +18,24 @@ use Rattle.aipsio_rules.proofs.Kept.{Clean, Refused, ranged-reads}
 use Rattle.aipsio_rules.proofs.Ways.{sized-short, sized-on, ranged-kept, ranged-on, ranged-out}
 use Rattle.aipsio_rules.proofs.ObjectAccepted.{cursor-same}
 
-past : {a b : Value} → a ≡ b → a .next ≡ b .next
-past e = ap (λ (v : Value). v .next) e
+next-same : {a b : Value} → a ≡ b → a .next ≡ b .next
+next-same e = ap (λ (v : Value). v .next) e
 
 module _ (s : List ℕ) (width : ℕ) where
   -- one number; `size` is the width as the code has it
   module _ (c : Cursor) (h : Clean c) {left size : ℕ} (e : left ≡ leftIn c) (w : size ≡ width) where
     pub row-short : left < size → refusedAt c (c .at) 1 ≡ rowAt s c width .next
-    row-short l = past (ranged-kept s c width 0 mostInt64 4 (sized-short s c h e w l refl) (λ z. omega arith))
+    row-short l = next-same (ranged-kept s c width 0 mostInt64 4 (sized-short s c h e w l refl) (λ z. omega arith))
 
     module _ {v : ℕ} (l : size ≤ left) (q : v ≡ uintOf (c .big) width s (c .at)) where
       pub row-negative : mostInt64 < v → refusedAt c (c .at) 4 ≡ rowAt s c width .next
       unfolding settled
       row-negative k =
-          past (ranged-out s c width 0 mostInt64 4 (sized-on s c h e w l q) refl refl {d = refusedAt c (c .at) 4} {x = settled v (refusedAt c (c .at) 4)}
+          next-same (ranged-out s c width 0 mostInt64 4 (sized-on s c h e w l q) refl refl {d = refusedAt c (c .at) 4} {x = settled v (refusedAt c (c .at) 4)}
           (rw (le-leb 0 v zero-le, lt-leb v mostInt64 k)) refl refl)
 
       pub row-on : v ≤ mostInt64 → movedTo c (c .at + size) ≡ rowAt s c width .next
-      row-on k = past (ranged-on s c width 0 mostInt64 4 (sized-on s c h e w l q) refl refl (rw (le-leb 0 v zero-le, le-leb v mostInt64 k)))
+      row-on k = next-same (ranged-on s c width 0 mostInt64 4 (sized-on s c h e w l q) refl refl (rw (le-leb 0 v zero-le, le-leb v mostInt64 k)))
 
   row-still : (c : Cursor) → Refused c → (j : ℕ) → rowAt s c width .next ≡ c
   row-still c h j = ranged-reads s c width 0 mostInt64 4 .keeps .stays h

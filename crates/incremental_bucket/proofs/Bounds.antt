@@ -7,7 +7,8 @@ use Prim.Native.Nat.{ℕ, zero, suc, _+_, _≤_, zero-le}
 use native.Mathlib.Omega.{arith}
 use lib.Dec.{eqb}
 use native.Mathlib.Decide.{ℕ-discrete}
-use borrow.Author.Tests.{leb-true, eq-eqb, ne-eqb}
+use borrow.Author.Tests.{leb-true}
+use Rattle.incremental_rules.proofs.Turns.{begun-on, begun-off}
 use Rattle.bytes_at.specs.Number.{intBytes}
 use Rattle.bytes_at.specs.Steps.{after, _>>=_}
 use Rattle.aipsio_rules.specs.declared.Cursor.{Cursor}
@@ -48,8 +49,7 @@ module _ (s : List ℕ) (limit : ℕ) where
       cond-le (eqb n column) (column-le _ width rows row _) (columns-le width rows row column bytes st n h) refl
 
 begun-le : (c : Cursor) (wide : Bool) (len : ℕ) {high : ℕ} → (Clean c → len ≤ high) → begun c wide len .len ≤ high
-unfolding begun
-begun-le c wide len h = elim (ℕ-discrete (c .refused) 0) [ yes e ↦ rw (eq-eqb (c .refused) 0 e) (h e) | no e ↦ rw (ne-eqb (c .refused) 0 e) zero-le ]
+begun-le c wide len h = elim (ℕ-discrete (c .refused) 0) [ yes e ↦ rw (begun-on c wide len e) (h e) | no e ↦ rw (begun-off c wide len e) zero-le ]
 
 head-le : (s : List ℕ) (c : Cursor) (size : ℕ) → bucketHeadAt s c size .len ≤ size
 unfolding bucketHeadAt _>>=_

@@ -5,13 +5,12 @@ use mathlib.Core.List.{List}
 use mathlib.Core.Bool.{Bool, true, false, cond}
 use Prim.Native.Nat.{ℕ, _+_}
 use lib.Dec.{leb, eqb}
-use native.Mathlib.Decide.{ℕ-discrete}
-use borrow.Author.Tests.{eq-eqb, ne-eqb}
 use Rattle.bytes_at.specs.Steps.{_>>=_}
 use Rattle.aipsio_rules.specs.declared.Cursor.{Cursor}
 use Rattle.aipsio_rules.specs.Field.{refusedAt, movedTo, skipped, judged, settled, uintAt}
 use Rattle.incremental_rules.specs.declared.BucketHead.{BucketHead}
-use Rattle.incremental_rules.specs.Bucket.{begun, bucketHeadAt}
+use Rattle.incremental_rules.specs.Bucket.{bucketHeadAt}
+use Rattle.incremental_rules.proofs.Turns.{begun-next}
 
 either : (t : Bool) (a b : Cursor) {e : ℕ} → a .end ≡ e → b .end ≡ e → cond t a b .end ≡ e
 either true a b p q = p
@@ -29,13 +28,9 @@ uint-end : (s : List ℕ) (c : Cursor) → uintAt s c .next .end ≡ c .end
 unfolding uintAt settled _>>=_
 uint-end s c = skipped-end c 4
 
-begun-end : (c : Cursor) (wide : Bool) (len : ℕ) → begun c wide len .next .end ≡ c .end
-unfolding begun
-begun-end c wide len = elim (ℕ-discrete (c .refused) 0) [ yes e ↦ rw (eq-eqb (c .refused) 0 e) | no e ↦ rw (ne-eqb (c .refused) 0 e) ]
-
 head-end : (s : List ℕ) (c : Cursor) (size : ℕ) → bucketHeadAt s c size .next .end ≡ c .end
 unfolding bucketHeadAt _>>=_
-head-end s c size = begun-end _ _ _ ∙ skipped-end _ _ ∙ judged-end _ _ _ 11 ∙ uint-end s c
+head-end s c size = ap (λ (x : Cursor). x .end) (begun-next _ _ _) ∙ skipped-end _ _ ∙ judged-end _ _ _ 11 ∙ uint-end s c
 
 -- of what `read_head` gave
 pub head-of-end : (s : List ℕ) (c : Cursor) (size : ℕ) {h : BucketHead} → h ≡ bucketHeadAt s c size → h .next .end ≡ c .end

@@ -24,9 +24,9 @@ use Rattle.aipsio_rules.proofs.Kept.{Clean, clean-before, uint-reads, judged-ke
 use Rattle.aipsio_rules.proofs.Sides.{judge-on, skip-on}
 use Rattle.aipsio_rules.proofs.Accepted.{judged-passed, judged-within, sized-fits, uint-is}
 use Rattle.incremental_rules.specs.declared.Starts.{Starts}
-use Rattle.incremental_rules.specs.Bucket.{startFits, startsAt, offsetsAt, begun, bucketHeadAt, isWide, lowBytes, columnPartAt, columnPartInto, columnPartsAt, bucketAt, indexOffset, startBytes, valuesIn, startIn, offsetOfValue, pastPart, partOf, PartAccepted, BucketAccepted}
+use Rattle.incremental_rules.specs.Bucket.{startFits, startsAt, offsetsAt, bucketHeadAt, isWide, lowBytes, columnPartAt, columnPartInto, columnPartsAt, bucketAt, indexOffset, startBytes, valuesIn, startIn, offsetOfValue, pastPart, partOf, PartAccepted, BucketAccepted}
 use Rattle.incremental_rules.specs.Place.{valueIn, offsetIn}
-use Rattle.incremental_rules.proofs.Turns.{same}
+use Rattle.incremental_rules.proofs.Turns.{same, begun-on, begun-next}
 use Rattle.incremental_rules.proofs.Last.{last-below}
 use Rattle.incremental_rules.proofs.Values.{fits-below, fits-first, fits-rise, first-fits, later-fits, before, past, number-is, Judged, judged-on, judged-read, startsFrom, starts-clean, StartsRead, starts-read, starts-on, offsetsFrom, offsets-clean, OffsetsRead, offsets-read, offsets-on}
 
@@ -183,14 +183,6 @@ module _ (s : List ℕ) (big : Bool) where
     low : 4 ≤ indexOffset big s (c .at)
     high : indexOffset big s (c .at) ≤ size
 
-  begun-on : (c : Cursor) → Clean c → (wide : Bool) (len : ℕ) → begun c wide len ≡ record { wide = wide; len = len; next = c }
-  unfolding begun
-  begun-on c h wide len = rw (eq-eqb (c .refused) 0 h)
-
-  begun-next : (c : Cursor) (wide : Bool) (len : ℕ) → begun c wide len .next ≡ c
-  unfolding begun
-  begun-next c wide len = elim (ℕ-discrete (c .refused) 0) [ yes h ↦ rw (eq-eqb (c .refused) 0 h) | no h ↦ rw (ne-eqb (c .refused) 0 h) ]
-
   head-on : (c : Cursor) (size : ℕ) → c .big ≡ big → Clean c → size ≤ leftIn c → HeadRead c size
       → bucketHeadAt s c size ≡ record {
         wide = isWide (uintOf big 4 s (c .at));
@@ -204,7 +196,7 @@ module _ (s : List ℕ) (big : Bool) where
       let p : d .at + (x - 4) ≡ c .at + x = omega (arith, r .low) in
       let w : judged d (c .at) (leb 4 x && leb x size) 11 ≡ d = sym (judge-on d refl (c .at) _ 11 (rw (le-leb 4 x (r .low), le-leb x size (r .high)))) in
       let n : skipped d (x - 4) ≡ movedTo d (d .at + (x - 4)) = sym (skip-on d refl refl (x - 4) (omega (arith, r .low, r .high))) in
-      rw (uint-is s c ∙ number-is s big 4 c o h (omega (arith, r .low, r .high)), w, n, p) (begun-on (movedTo c (c .at + x)) refl _ (x - 4))
+      rw (uint-is s c ∙ number-is s big 4 c o h (omega (arith, r .low, r .high)), w, n, p) (begun-on (movedTo c (c .at + x)) _ (x - 4) refl)
 
   head-read : (c : Cursor) (size : ℕ) → c .big ≡ big → Clean (bucketHeadAt s c size .next) → HeadRead c size
   unfolding bucketHeadAt _>>=_

@@ -9,7 +9,7 @@ use mathlib.Core.Path.{_≡_, refl, sym, ap, _∙_}
 use mathlib.Core.List.{List}
 use mathlib.Core.Bool.{Bool, true, false, cond}
 use Prim.Native.Nat.{ℕ, _+_, _-_, _≤_, _<_, zero-le}
-use native.Mathlib.Decide.{decLe}
+use native.Mathlib.Decide.{ℕ-discrete, decLe}
 use native.Mathlib.Omega.{arith}
 use lib.Dec.{leb, eqb}
 use borrow.Author.Tests.{eq-eqb, ne-eqb, le-leb, lt-leb}
@@ -25,7 +25,7 @@ use Rattle.aipsio_rules.proofs.Sides.{judge-on, judge-refused, settle-on}
 use Rattle.aipsio_rules.proofs.Ways.{sized-short, sized-on}
 use Rattle.aipsio_rules.proofs.Accepted.{uint-is}
 use Rattle.incremental_rules.specs.declared.Starts.{Starts}
-use Rattle.incremental_rules.specs.Bucket.{startFits, started, startInto, startsAt, offsetInto, offsetsAt}
+use Rattle.incremental_rules.specs.Bucket.{begun, startFits, started, startInto, startsAt, offsetInto, offsetsAt}
 
 -- a sum that is tested without being made
 pub leb-minus : (v b d : ℕ) → b ≤ d → leb v (d - b) ≡ leb (v + b) d
@@ -46,6 +46,19 @@ module _ (s : List ℕ) (c : Cursor) (h : Clean c) {left : ℕ} (e : left ≡ le
 
   pub uint-on : {v : ℕ} → 4 ≤ left → v ≡ uintOf (c .big) 4 s (c .at) → record { value = v; next = movedTo c (c .at + 4) } ≡ uintAt s c
   uint-on l q = sized-on s c h e refl l q ∙ sym (uint-is s c)
+
+-- ---- the beginning of a bucket
+module _ (c : Cursor) (wide : Bool) (len : ℕ) where
+  pub begun-on : Clean c → begun c wide len ≡ record { wide = wide; len = len; next = c }
+  unfolding begun
+  begun-on h = rw (eq-eqb (c .refused) 0 h)
+
+  pub begun-off : Refused c → begun c wide len ≡ record { wide = false; len = 0; next = c }
+  unfolding begun
+  begun-off h = rw (ne-eqb (c .refused) 0 h)
+
+  pub begun-next : begun c wide len .next ≡ c
+  begun-next = elim (ℕ-discrete (c .refused) 0) [ yes h ↦ rw (begun-on h) | no h ↦ rw (begun-off h) ]
 
 -- ---- starts
 module _ (c : Cursor) (last hit : ℕ) where
