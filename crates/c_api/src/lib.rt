@@ -9,7 +9,7 @@ ghost use Rattle.table_rules.specs.DataType.{elementBits};
 ghost use Rattle.table_rules.specs.Table.{describedAs, columnNamed, positionRefusal};
 ghost use Rattle.c_numbers.specs.Answers.{written, summaryOf, columnRefusal, columnNumbers, managerRefusal, managerNumbers, positionNumbers, ifNine};
 ghost use Rattle.lookup_rules.specs.Questions.{answerOf, roomAfter};
-ghost use Rattle.c_numbers.specs.Numbers.{checkNumbers, planNumbers, placeNumbers, viewNumbers, planFrom};
+ghost use Rattle.c_numbers.specs.Numbers.{checkNumbers, planNumbers, placeNumbers, viewNumbers, inBucketNumbers, planFrom};
 use lookup_rules::Asked;
 use lookup_rules::Question;
 use table_rules::data_type::DataType;
@@ -225,6 +225,25 @@ pub extern "C" fn hv_view_planned(
         room,
         out,
     )
+}
+
+// Place in one bucket, of a row and a position in IncrementalStMan: first bit and bit count, the file's bucket size, the byte, 4 numbers.
+#[no_mangle]
+pub extern "C" fn hv_place_in_bucket(
+    table: &[u8],
+    file: &[u8],
+    row: u64,
+    position: u64,
+    room: &mut [u8],
+    out: &mut [u64],
+) -> u64
+    ensures { λ r. ⌜ (r ≡ answerOf (now (table .entry)) (now (file .entry)) (Question.PlaceInBucket row position) (length (now (room .entry))) .refused .number) × (now (out .exit) ≡ written (inBucketNumbers (answerOf (now (table .entry)) (now (file .entry)) (Question.PlaceInBucket row position) (length (now (room .entry))))) (now (out .entry))) × (now (room .exit) ≡ roomAfter (now (table .entry)) (now (file .entry)) (Question.PlaceInBucket row position) (length (now (room .entry)))) ⌝ }
+{
+    let q = Question::PlaceInBucket(row as usize, position as usize);
+    let a = lookup::ask::ask(table, file, q, room);
+    let values = c_numbers::of_place_in_bucket(a);
+    c_numbers::values::write(&values, out);
+    a.refused.number as u64
 }
 
 // The bits of an element, from the number of a data type; 0 for a String's and for every number that is none of the types.

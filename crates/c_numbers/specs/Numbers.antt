@@ -1,4 +1,5 @@
--- The numbers that C gets for a column, a manager, a check, a plan, a place or a view, and a plan from its numbers.
+-- The numbers that C gets for a column, a manager, a check, a plan, a place, a view or a place in one bucket, and a plan from its
+-- numbers.
 use Prim.Native.Nat.{ℕ, _/_}
 use mathlib.Core.List.{List, [], _∷_, _++_}
 use mathlib.Core.Bool.{Bool, true, false}
@@ -68,3 +69,7 @@ placeNumbers a = withByte (a .first ∷ a .count ∷ a .looks ∷ a .entries ∷
 -- View: the same part of the file in bytes, its start and its length
 abbrev pub viewNumbers : Answer → List ℕ
 viewNumbers a = withByte (a .first / 8 ∷ a .count / 8 ∷ []) (a .refused)
+
+-- Place in one bucket: first bit and bit count, and the bucket size of the file
+abbrev pub inBucketNumbers : Answer → List ℕ
+inBucketNumbers a = withByte (a .first ∷ a .count ∷ a .size ∷ []) (a .refused)

@@ -5,7 +5,7 @@ pub mod values;
 ghost use mathlib.Core.Path.{_≡_};
 ghost use Prim.Native.Nat.{_≤_};
 ghost use lib.ListN.{length};
-ghost use Rattle.c_numbers.specs.Numbers.{flagOf, kindNumber, withByte, oneColumn, oneManager, checkNumbers, planNumbers, placeNumbers, viewNumbers, planFrom};
+ghost use Rattle.c_numbers.specs.Numbers.{flagOf, kindNumber, withByte, oneColumn, oneManager, checkNumbers, planNumbers, placeNumbers, viewNumbers, inBucketNumbers, planFrom};
 use bytes_at::Refusal;
 use lookup_rules::Answer;
 use lookup_rules::Plan;
@@ -114,6 +114,18 @@ pub fn of_view(a: Answer) -> [u64; 3]
     [
         (a.first / 8) as u64,
         (a.count / 8) as u64,
+        a.refused.byte as u64,
+    ]
+}
+
+// A place in one bucket: first bit and bit count, and the file's bucket size.
+pub fn of_place_in_bucket(a: Answer) -> [u64; 4]
+    ensures { λ r. ⌜ r ≡ inBucketNumbers a ⌝ }
+{
+    [
+        a.first as u64,
+        a.count as u64,
+        a.size as u64,
         a.refused.byte as u64,
     ]
 }

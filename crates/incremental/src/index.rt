@@ -1,5 +1,5 @@
 // The index of an IncrementalStMan file (RULES.md 6.3): its bucket numbers and its first rows.
-ghost use Prim.Native.Nat.{_+_, _*_, _≤_};
+ghost use Prim.Native.Nat.{_+_, _*_, _≤_, _<_};
 ghost use lib.ListN.{length};
 ghost use mathlib.Core.Path.{_≡_};
 ghost use mathlib.Core.List.{_++_};
@@ -8,7 +8,8 @@ ghost use Rattle.standard_rules.specs.Index.{links};
 ghost use Rattle.bytes_at.specs.Number.{bytesOf, numbersAt};
 ghost use Rattle.bytes_at.specs.Lists.{allApart};
 ghost use Rattle.incremental_rules.specs.Index.{firstRow, firstsFit, indexFits};
-ghost use Rattle.incremental.specs.Bounds.{IndexInside};
+ghost use Rattle.incremental_rules.specs.Place.{entryOf};
+ghost use Rattle.incremental.specs.Bounds.{IndexInside, Numbered};
 use bytes_at::Width;
 use incremental_rules::Header;
 use incremental_rules::Index;
@@ -44,6 +45,28 @@ pub fn first_row(f: &[u8], big: bool, x: Index, i: usize) -> usize
     let width = Width::of_int(x.wide);
     let size = width.bytes();
     bytes_at::number(f, x.firsts + i * size, big, width)
+}
+
+// The entry of a row that is below the row count, the last whose first row is not above it, by halving: the first rows rise.
+pub fn find_entry(f: &[u8], big: bool, x: Index, row: usize, rows: usize) -> usize
+    requires { ⌜ (IndexInside (length (now f)) x) × (Numbered rows big (now f) x) × (row < rows) ⌝ }
+    ensures { λ r. ⌜ r ≡ entryOf big (now (f .entry)) x row ⌝ }
+    ensures known { λ r. ⌜ r < x .count ⌝ }
+{
+    let mut first = 0;
+    let mut past = x.count;
+    loop {
+        if past - first <= 1 {
+            return first;
+        }
+        let middle = first + (past - first) / 2;
+        let from = first_row(f, big, x, middle);
+        if row < from {
+            past = middle;
+        } else {
+            first = middle;
+        }
+    }
 }
 
 // Whether the n + 1 first rows that stand in the file from a place on begin with 0, rise strictly and end at the row count.

@@ -5,11 +5,12 @@ use mathlib.Core.List.{List}
 use mathlib.Core.Bool.{Bool}
 use Prim.Native.Nat.{ℕ, zero, suc, _+_, _-_}
 use native.Mathlib.Decide.{ℕ-discrete}
+use lib.Dec.{ltb}
 use lib.ListN.{getD}
 use borrow.Author.Tests.{eq-eqb, ne-eqb}
 use Rattle.bytes_at.specs.Steps.{after, _>>=_}
 use Rattle.bytes_at.specs.declared.Refusal.{Refusal}
-use Rattle.bytes_at.specs.Stages.{_▷_}
+use Rattle.bytes_at.specs.Stages.{_▷_, orNo}
 use Rattle.aipsio_rules.specs.Field.{refusalIn}
 use Rattle.table_rules.specs.declared.Column.{Column}
 use Rattle.table_rules.specs.declared.Binding.{Binding}
@@ -22,6 +23,8 @@ use Rattle.incremental_rules.proofs.BucketAnyCell.{any-cell}
 use Rattle.incremental_rules.specs.declared.Cells.{Cells}
 use Rattle.incremental_rules.specs.declared.Found.{Found}
 use Rattle.incremental_rules.specs.Check.{foundAs, bucketInto, nothing, searchOf}
+use Rattle.incremental_rules.specs.Place.{entryOf}
+use Rattle.incremental_rules.specs.OneBucket.{ownBucket}
 
 -- the same columns, whichever is asked for
 pub record SameCells (a b : Cells) : Type 0 where
@@ -49,7 +52,7 @@ found-refused refused start offset = refl
 
 module _ (big : Bool) (f : List ℕ) (size : ℕ) (x : Index) where
   -- what bucket i of the index is refused with
-  abbrev refusedIn : Cells → ℕ → ℕ → Refusal
+  abbrev pub refusedIn : Cells → ℕ → ℕ → Refusal
   refusedIn cells row i =
       let first = firstRow big f x i in
       refusalIn (bucketAt f (bucketStart size (bucketNumber big f x i)) size big (firstRow big f x (i + 1) - first) (row - first) (cells .column) (cells .bytes) (cells .count) .next)
@@ -75,3 +78,12 @@ module _ (big : Bool) (f : List ℕ) (size : ℕ) (x : Index) where
   pub search-same : (a b : Cells) (row row′ : ℕ) → SameCells a b → searchOf big f size x a row .refused ≡ searchOf big f size x b row′ .refused
   unfolding searchOf
   search-same a b row row′ v = turns-same a b row row′ v (x .count)
+
+  -- the row's own bucket, after the row
+  pub own-refused : (rows : ℕ) (cells : Cells) (row : ℕ) → ownBucket rows big f size x cells row .refused ≡ orNo (ltb row rows) 9 ▷ refusedIn cells row (entryOf big f x row)
+  unfolding ownBucket
+  own-refused rows cells row = turn-refused cells row _ (entryOf big f x row)
+
+  pub own-same : (rows : ℕ) (a b : Cells) (row : ℕ) → SameCells a b → ownBucket rows big f size x a row .refused ≡ ownBucket rows big f size x b row .refused
+  own-same rows a b row v =
+      own-refused rows a row ∙ ap (λ (r : Refusal). orNo (ltb row rows) 9 ▷ r) (same-refused a b row row (entryOf big f x row) v) ∙ sym (own-refused rows b row)

@@ -1,7 +1,7 @@
 -- "Others carry 0": of what refuses a file.
 -- Assumes nothing.
 use mathlib.Core.List.{List}
-use mathlib.Core.Bool.{Bool}
+use mathlib.Core.Bool.{Bool, true, false}
 use Prim.Native.Nat.{ℕ, zero, suc}
 use lib.Dec.{eqb}
 use Rattle.bytes_at.specs.declared.Refusal.{Refusal}
@@ -15,9 +15,11 @@ use Rattle.incremental_rules.specs.declared.Header.{Header}
 use Rattle.incremental_rules.specs.declared.Index.{Index}
 use Rattle.incremental_rules.specs.declared.Cells.{Cells}
 use Rattle.incremental_rules.specs.Header.{headed, headerAt}
-use Rattle.incremental_rules.specs.Index.{indexed, indexAt}
-use Rattle.incremental_rules.specs.Check.{bucketInto, nothing, searchOf, refusalOf}
-use Rattle.incremental_rules.proofs.AnyCell.{turn-refused}
+use Rattle.incremental_rules.specs.Index.{indexed, indexAt, indexOf}
+use Rattle.incremental_rules.specs.Bucket.{cellsOf}
+use Rattle.incremental_rules.specs.Check.{bucketInto, nothing, searchOf, beforeBuckets, refusalOf}
+use Rattle.incremental_rules.specs.OneBucket.{ownRefusal, refusalBy}
+use Rattle.incremental_rules.proofs.AnyCell.{turn-refused, own-refused}
 
 headed-others : (c : Cursor) (h : HeaderFields) → OthersCarry0 (headed c h .refused)
 unfolding headed
@@ -49,13 +51,30 @@ module _ (big : Bool) (f : List ℕ) (size : ℕ) (x : Index) (cells : Cells) (r
   unfolding searchOf
   search-others = turns-others (x .count)
 
-pub refusal-others : (d : Description) (sequence : ℕ) (f : List ℕ) (refused : Refusal) → OthersCarry0 refused → OthersCarry0 (refusalOf d sequence f refused)
-unfolding refusalOf
-refusal-others d sequence f refused h =
-    others-then _ _ h
-    (others-then _ _ (header-others _ _)
-    (others-then _ _ (others-or _ 1 _)
-    (others-then _ _ (index-others _ _ _)
-    (others-then _ _ (others-or _ 10 _)
-    (others-then _ _ (others-or _ 11 _)
-    (search-others _ _ _ _ _ _))))))
+module _ (d : Description) (sequence : ℕ) (f : List ℕ) (refused : Refusal) (h : OthersCarry0 refused) where
+  before-others : OthersCarry0 (beforeBuckets (d .rows) (d .big) f refused)
+  unfolding beforeBuckets
+  before-others =
+      others-then _ _ h
+      (others-then _ _ (header-others _ _)
+      (others-then _ _ (others-or _ 1 _)
+      (others-then _ _ (index-others _ _ _)
+      (others-then _ _ (others-or _ 10 _)
+      (others-or _ 11 _)))))
+
+  refusal-others : OthersCarry0 (refusalOf d sequence f refused)
+  unfolding refusalOf
+  refusal-others = others-then _ _ before-others (search-others _ _ _ _ _ _)
+
+  own-others : (row : ℕ) → OthersCarry0 (ownRefusal d sequence f refused row)
+  unfolding ownRefusal
+  own-others row =
+      let h = headerAt f (d .big) in
+      others-then _ _ before-others
+      (rw (own-refused (d .big) f (h .size) (indexOf f (d .big) h) (d .rows) (cellsOf d sequence 0) row) (others-then _ _ (others-or _ 9 _) (others-blaming _ _)))
+
+  -- of either check
+  pub by-others : (own : Bool) (row : ℕ) → OthersCarry0 (refusalBy own d sequence f refused row)
+  unfolding refusalBy
+  by-others true row = own-others row
+  by-others false row = refusal-others

@@ -25,7 +25,7 @@ use Rattle.incremental_rules.specs.declared.Cells.{Cells}
 use Rattle.incremental_rules.specs.Header.{fieldsAt, headed, headerAt}
 use Rattle.incremental_rules.specs.Index.{indexOf}
 use Rattle.incremental_rules.specs.Bucket.{cellsOf}
-use Rattle.incremental_rules.specs.Check.{bucketInto, nothing, searchOf, refusalOf, Accepted, AcceptedExactly}
+use Rattle.incremental_rules.specs.Check.{bucketInto, nothing, searchOf, beforeBuckets, refusalOf, PartsAccepted, Accepted, AcceptedExactly}
 use Rattle.incremental_rules.proofs.Accepted.{bucket-read, bucket-on}
 use Rattle.incremental_rules.proofs.AnyCell.{turn-refused}
 use Rattle.incremental_rules.proofs.Search.{bucketIn}
@@ -61,6 +61,42 @@ module _ (big : Bool) (f : List ℕ) (size : ℕ) (x : Index) (cells : Cells) (r
   all-clean (suc n) h =
       ap (λ (r : Refusal). r .number) (turn-refused big f size x cells row _ n ∙ goes _ _ (all-clean n (λ i l. h i (omega arith)))) ∙ h n (omega arith)
 
+-- ---- the parts before the buckets
+module _ (rows : ℕ) (big : Bool) (f : List ℕ) (refused : Refusal) where
+  abbrev partsHeader : Header
+  partsHeader = headerAt f big
+
+  abbrev partsIndex : Index
+  partsIndex = indexOf f big partsHeader
+
+  pub parts-read : beforeBuckets rows big f refused .number ≡ 0 → (refused .number ≡ 0) × PartsAccepted rows big f partsHeader partsIndex
+  unfolding beforeBuckets
+  parts-read z =
+      let a = then-right _ _ z in
+      let b = then-right _ _ a in
+      let c = then-right _ _ b in
+      let e = then-right _ _ c in (
+        then-left _ _ z,
+        record {
+          header = then-left _ _ a;
+          long = leb→le _ _ (or-passed (longEnough (length f) (partsHeader .size) (partsHeader .count)) 0 _ (then-left _ _ b));
+          index = then-left _ _ c;
+          free = or-passed _ 9 _ (then-left _ _ e);
+          numbers = index-read rows big f partsHeader partsIndex (or-passed _ 10 _ (then-right _ _ e));
+        },
+      )
+
+  pub parts-pass : refused .number ≡ 0 → PartsAccepted rows big f partsHeader partsIndex → beforeBuckets rows big f refused .number ≡ 0
+  unfolding beforeBuckets
+  parts-pass h a =
+      ap (λ (r : Refusal). r .number) (
+      goes _ _ h
+      ∙ goes _ _ (a .header)
+      ∙ goes _ _ (passes _ 1 _ (is-true _ (le→leb _ _ (a .long))))
+      ∙ goes _ _ (a .index)
+      ∙ goes _ _ (passes _ 10 _ (is-true _ (a .free))))
+      ∙ passes _ 11 _ (is-true _ (index-passes rows big f partsHeader partsIndex (a .numbers) (header-few f big) (a .free)))
+
 -- ---- the stages
 module _ (d : Description) (sequence : ℕ) (f : List ℕ) (refused : Refusal) where
   abbrev header : Header
@@ -75,35 +111,15 @@ module _ (d : Description) (sequence : ℕ) (f : List ℕ) (refused : Refusal) w
   accepted : refusalOf d sequence f refused .number ≡ 0 → (refused .number ≡ 0) × Accepted d sequence f
   unfolding refusalOf searchOf
   accepted z =
-      let a = then-right _ _ z in
-      let b = then-right _ _ a in
-      let c = then-right _ _ b in
-      let e = then-right _ _ c in
-      let g = then-right _ _ e in
-      let clean = each-clean (d .big) f (header .size) index cells 0 (index .count) (then-right _ _ g) in (
-        then-left _ _ z,
-        record {
-          header = then-left _ _ a;
-          long = leb→le _ _ (or-passed (longEnough (length f) (header .size) (header .count)) 0 _ (then-left _ _ b));
-          index = then-left _ _ c;
-          free = or-passed _ 9 _ (then-left _ _ e);
-          numbers = index-read (d .rows) (d .big) f header index (or-passed _ 10 _ (then-left _ _ g));
-          buckets = λ i l. bucket-read f _ _ _ _ _ _ _ _ (clean i l) .accepted;
-        },
-      )
+      let p = parts-read (d .rows) (d .big) f refused (then-left _ _ z) in
+      let clean = each-clean (d .big) f (header .size) index cells 0 (index .count) (then-right _ _ z) in
+      (p .0, record { parts = p .1; buckets = λ i l. bucket-read f _ _ _ _ _ _ _ _ (clean i l) .accepted })
 
   not-refused : (refused .number ≡ 0) × Accepted d sequence f → refusalOf d sequence f refused .number ≡ 0
   unfolding refusalOf searchOf
   not-refused v =
-      let a = v .1 in
-      ap (λ (r : Refusal). r .number) (
-      goes _ _ (v .0)
-      ∙ goes _ _ (a .header)
-      ∙ goes _ _ (passes _ 1 _ (is-true _ (le→leb _ _ (a .long))))
-      ∙ goes _ _ (a .index)
-      ∙ goes _ _ (passes _ 10 _ (is-true _ (a .free)))
-      ∙ goes _ _ (passes _ 11 _ (is-true _ (index-passes (d .rows) (d .big) f header index (a .numbers) (header-few f (d .big)) (a .free)))))
-      ∙ all-clean (d .big) f (header .size) index cells 0 (index .count) (λ i l. bucket-on f _ _ _ _ _ _ _ _ (a .buckets i l))
+      ap (λ (r : Refusal). r .number) (goes _ _ (parts-pass (d .rows) (d .big) f refused (v .0) (v .1 .parts)))
+      ∙ all-clean (d .big) f (header .size) index cells 0 (index .count) (λ i l. bucket-on f _ _ _ _ _ _ _ _ (v .1 .buckets i l))
 
 pub accepted-exactly : AcceptedExactly
 accepted-exactly d sequence f refused = (accepted d sequence f refused, not-refused d sequence f refused)
@@ -121,5 +137,4 @@ module _ (big : Bool) (f : List ℕ) (size : ℕ) (x : Index) (cells : Cells) (r
 
 pub refusal-clear : (d : Description) (sequence : ℕ) (f : List ℕ) (refused : Refusal) → Clear (refusalOf d sequence f refused)
 unfolding refusalOf
-refusal-clear d sequence f refused =
-    clear-then _ _ (clear-then _ _ (clear-then _ _ (clear-then _ _ (clear-then _ _ (clear-then _ _ (search-clear _ _ _ _ _ _))))))
+refusal-clear d sequence f refused = clear-then _ _ (search-clear _ _ _ _ _ _)

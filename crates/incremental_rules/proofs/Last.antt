@@ -45,3 +45,11 @@ module _ (test : ℕ → Bool) where
       go : (b : Bool) → test n ≡ b → (lastBelow test n < j → j < n → test j ≡ false) → test j ≡ false
       go true e v = absurd (omega (arith, last-here n e))
       go false e v = elim (ℕ-discrete j n) [ yes q ↦ rw q e | no q ↦ v (omega (arith, last-before n e)) (omega arith) ]
+
+  -- one that passes, and after which none does
+  pub last-is : (n e : ℕ) → e < n → test e ≡ true → ((j : ℕ) → e < j → j < n → test j ≡ false) → lastBelow test n ≡ e
+  last-is zero e l t h = absurd (not-suc-le-zero l)
+  last-is (suc n) e l t h = elim (ℕ-discrete e n) [
+    | yes q ↦ last-here n (ap test (sym q) ∙ t) ∙ sym q
+    | no q ↦ last-before n (h n (omega arith) (omega arith)) ∙ last-is n e (omega arith) t (λ j a b. h j a (omega arith))
+  ]

@@ -24,6 +24,7 @@ use Rattle.incremental_rules.specs.declared.Cells.{Cells}
 use Rattle.incremental_rules.specs.declared.Found.{Found}
 use Rattle.incremental_rules.specs.Check.{foundAs, bucketInto, nothing, searchOf}
 use Rattle.incremental_rules.specs.Place.{entryOf}
+use Rattle.incremental_rules.specs.OneBucket.{ownBucket}
 use Rattle.incremental_rules.proofs.AnyCell.{turn-refused}
 
 found-clean : (refused : Refusal) (start offset : ℕ) → refused .number ≡ 0 → foundAs refused start offset ≡ record { start = start; offset = offset; refused = refused }
@@ -82,3 +83,11 @@ module _ (big : Bool) (f : List ℕ) (size : ℕ) (x : Index) (cells : Cells) (r
       → FoundIn (x .count) (entryOf big f x row) (searchOf big f size x cells row)
   unfolding searchOf
   search-found z h e = turns-found (x .count) z e h
+
+  -- the row's own bucket alone
+  pub own-found : (rows : ℕ) → notAbove (entryOf big f x row) ≡ true → ownBucket rows big f size x cells row .refused .number ≡ 0
+      → FoundIn (x .count) (entryOf big f x row) (ownBucket rows big f size x cells row)
+  unfolding ownBucket
+  own-found rows q e =
+      let i = entryOf big f x row in
+      rw (turn-is _ i e, q) (record { start = refl; offset = refl; clean = then-right _ _ (rw (turn-refused big f size x cells row _ i) at e) })

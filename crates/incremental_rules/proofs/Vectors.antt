@@ -25,7 +25,8 @@ use Rattle.incremental_rules.specs.Header.{fieldsAt, headed, headerAt}
 use Rattle.incremental_rules.specs.Index.{indexed, indexAt, risesTo, firstsFit, indexFits}
 use Rattle.incremental_rules.proofs.IndexVectors.{header, object, wideObject}
 use Rattle.incremental_rules.specs.Bucket.{startFits, started, startInto, startsAt, offsetInto, offsetsAt, begun, bucketHeadAt, columnPartAt, columnPartInto, columnPartsAt, bucketAt, cellInto, cellsIn}
-use Rattle.incremental_rules.specs.Check.{foundAs, bucketInto, searchOf, refusalOf, checkedAs}
+use Rattle.incremental_rules.specs.Check.{foundAs, bucketInto, searchOf, beforeBuckets, refusalOf, told, checkedAs}
+use Rattle.incremental_rules.specs.OneBucket.{ownBucket, ownRefusal, ownChecked}
 use Rattle.incremental_rules.specs.Place.{partAt, bitOf, placeOf}
 
 -- bucket 0: index offset 10; SCAN has one value, FLAG two, from its rows 0 and 3 on
@@ -91,7 +92,7 @@ pub places :
     × (placeOf (table true) 0 file 2 6 ≡ record { first = 4168; count = 8 })
     × (checkedAs (table true) 0 file noRefusal 2 6 ≡ record { refused = noRefusal; size = 64; first = 4168 })
     × (checkedAs (table true) 0 file (blaming 8 0) 2 6 ≡ record { refused = blaming 8 0; size = 0; first = 0 })
-unfolding bigFrom uintOf sameBytes skipped skippedEach judged settled sizedAt uintAt rangedAt agreed markAt textBefore textAt nameAt entered opened closed blockHeadAt blockAt rowsAt rowBlockAt fieldsAt headed headerAt indexed indexAt links freeOk numbersAt all pairs allApart begun bucketHeadAt startFits started startInto startsAt offsetInto offsetsAt columnPartAt columnPartInto columnPartsAt bucketAt lastBelow partAt bitOf placeOf risesTo firstsFit indexFits cellInto cellsIn foundAs bucketInto searchOf refusalOf checkedAs noColumn noBinding _▷_ orAt after _>>=_
+unfolding bigFrom uintOf sameBytes skipped skippedEach judged settled sizedAt uintAt rangedAt agreed markAt textBefore textAt nameAt entered opened closed blockHeadAt blockAt rowsAt rowBlockAt fieldsAt headed headerAt indexed indexAt links freeOk numbersAt all pairs allApart begun bucketHeadAt startFits started startInto startsAt offsetInto offsetsAt columnPartAt columnPartInto columnPartsAt bucketAt lastBelow partAt bitOf placeOf risesTo firstsFit indexFits cellInto cellsIn foundAs bucketInto searchOf beforeBuckets refusalOf told checkedAs noColumn noBinding _▷_ orAt after _>>=_
 places = (refl, refl, refl, refl, refl, refl, refl, refl)
 
 -- the same with an index of version 2, and with starts of 8 bytes in bucket 0, whose high byte is 255
@@ -112,7 +113,7 @@ pub wide-places :
     × (placeOf (table true) 0 wideFile 2 5 ≡ record { first = 4160; count = 8 })
     × (placeOf (table true) 0 wideFile 2 6 ≡ record { first = 4168; count = 8 })
     × (refused (set wideFile 550 128) ≡ blaming 11 0)
-unfolding bigFrom uintOf sameBytes skipped skippedEach judged settled sizedAt uintAt rangedAt agreed markAt textBefore textAt nameAt entered opened closed blockHeadAt blockAt rowsAt rowBlockAt fieldsAt headed headerAt indexed indexAt links freeOk numbersAt all pairs allApart begun bucketHeadAt startFits started startInto startsAt offsetInto offsetsAt columnPartAt columnPartInto columnPartsAt bucketAt lastBelow partAt bitOf placeOf risesTo firstsFit indexFits cellInto cellsIn foundAs bucketInto searchOf refusalOf checkedAs noColumn noBinding _▷_ orAt after _>>=_
+unfolding bigFrom uintOf sameBytes skipped skippedEach judged settled sizedAt uintAt rangedAt agreed markAt textBefore textAt nameAt entered opened closed blockHeadAt blockAt rowsAt rowBlockAt fieldsAt headed headerAt indexed indexAt links freeOk numbersAt all pairs allApart begun bucketHeadAt startFits started startInto startsAt offsetInto offsetsAt columnPartAt columnPartInto columnPartsAt bucketAt lastBelow partAt bitOf placeOf risesTo firstsFit indexFits cellInto cellsIn foundAs bucketInto searchOf beforeBuckets refusalOf told checkedAs noColumn noBinding _▷_ orAt after _>>=_
 wide-places = (refl, refl, refl, refl, refl, refl)
 
 -- a file that ends in the last bucket; a little endian table; Blocks shorter than the count; a free list that does not end; a free
@@ -125,7 +126,7 @@ pub file-faults :
     × (refused (set file 789 2) ≡ blaming 11 0)
     × (refused (set file 789 3) ≡ blaming 11 0)
     × (refused (set file 764 8) ≡ blaming 11 0)
-unfolding bigFrom littleFrom uintOf sameBytes skipped skippedEach judged settled sizedAt uintAt rangedAt agreed markAt textBefore textAt nameAt entered opened closed blockHeadAt blockAt rowsAt rowBlockAt fieldsAt headed headerAt indexed indexAt links freeOk numbersAt all pairs allApart begun bucketHeadAt startFits started startInto startsAt offsetInto offsetsAt columnPartAt columnPartInto columnPartsAt bucketAt risesTo firstsFit indexFits cellInto cellsIn foundAs bucketInto searchOf refusalOf noColumn noBinding _▷_ orAt after _>>=_
+unfolding bigFrom littleFrom uintOf sameBytes skipped skippedEach judged settled sizedAt uintAt rangedAt agreed markAt textBefore textAt nameAt entered opened closed blockHeadAt blockAt rowsAt rowBlockAt fieldsAt headed headerAt indexed indexAt links freeOk numbersAt all pairs allApart begun bucketHeadAt startFits started startInto startsAt offsetInto offsetsAt columnPartAt columnPartInto columnPartsAt bucketAt risesTo firstsFit indexFits cellInto cellsIn foundAs bucketInto searchOf beforeBuckets refusalOf noColumn noBinding _▷_ orAt after _>>=_
 file-faults = (refl, refl, refl, refl, refl, refl, refl)
 
 -- in bucket 0, a high byte of 1, whose wider starts leave FLAG no value; an index offset of 3, of 65, and of 64, where the bucket
@@ -142,5 +143,25 @@ pub bucket-faults :
     × (refused (set file 545 0) ≡ blaming 11 0)
     × (refused (set file 533 2) ≡ noRefusal)
     × (refused (set file 533 3) ≡ blaming 11 0)
-unfolding bigFrom uintOf sameBytes skipped skippedEach judged settled sizedAt uintAt rangedAt agreed markAt textBefore textAt nameAt entered opened closed blockHeadAt blockAt rowsAt rowBlockAt fieldsAt headed headerAt indexed indexAt links freeOk numbersAt all pairs allApart begun bucketHeadAt startFits started startInto startsAt offsetInto offsetsAt columnPartAt columnPartInto columnPartsAt bucketAt risesTo firstsFit indexFits cellInto cellsIn foundAs bucketInto searchOf refusalOf noColumn noBinding _▷_ orAt after _>>=_
+unfolding bigFrom uintOf sameBytes skipped skippedEach judged settled sizedAt uintAt rangedAt agreed markAt textBefore textAt nameAt entered opened closed blockHeadAt blockAt rowsAt rowBlockAt fieldsAt headed headerAt indexed indexAt links freeOk numbersAt all pairs allApart begun bucketHeadAt startFits started startInto startsAt offsetInto offsetsAt columnPartAt columnPartInto columnPartsAt bucketAt risesTo firstsFit indexFits cellInto cellsIn foundAs bucketInto searchOf beforeBuckets refusalOf noColumn noBinding _▷_ orAt after _>>=_
 bucket-faults = (refl, refl, refl, refl, refl, refl, refl, refl, refl, refl)
+
+-- ---- the row's own bucket alone: rows 0 to 2 are in bucket 1, rows 3 to 6 in bucket 0
+abbrev refusedFor : List ℕ → ℕ → Refusal
+refusedFor f row = ownRefusal (table true) 0 f noRefusal row
+
+-- FLAG of row 6; a start of SCAN, and one of FLAG, at fault in bucket 0: seen from row 3 and not from row 2, whatever column is asked for;
+-- bucket 0 ending in its index; 9 ahead of that, and behind a free bucket in the index and a file that ends in the last bucket
+pub own-places :
+    (ownChecked (table true) 0 file noRefusal 2 6 ≡ record { refused = noRefusal; size = 64; first = 4168 })
+    × (ownChecked (table true) 0 file (blaming 8 0) 2 6 ≡ record { refused = blaming 8 0; size = 0; first = 0 })
+    × (ownChecked (table true) 0 (set file 529 1) noRefusal 0 2 ≡ record { refused = noRefusal; size = 64; first = 4672 })
+    × (ownChecked (table true) 0 (set file 545 4) noRefusal 0 3 ≡ record { refused = blaming 11 0; size = 0; first = 0 })
+    × (refusedFor (set file 529 1) 2 ≡ noRefusal)
+    × (refusedFor (set file 529 1) 3 ≡ blaming 11 0)
+    × (refusedFor (set file 515 64) 6 ≡ blaming 1 576)
+    × (refusedFor (set file 515 64) 7 ≡ blaming 9 0)
+    × (refusedFor (set file 789 2) 7 ≡ blaming 11 0)
+    × (refusedFor (take 703 file) 7 ≡ blaming 1 703)
+unfolding bigFrom uintOf sameBytes skipped skippedEach judged settled sizedAt uintAt rangedAt agreed markAt textBefore textAt nameAt entered opened closed blockHeadAt blockAt rowsAt rowBlockAt fieldsAt headed headerAt indexed indexAt links freeOk numbersAt all pairs allApart begun bucketHeadAt startFits started startInto startsAt offsetInto offsetsAt columnPartAt columnPartInto columnPartsAt bucketAt lastBelow risesTo firstsFit indexFits cellInto cellsIn foundAs bucketInto searchOf beforeBuckets told ownBucket ownRefusal ownChecked noColumn noBinding _▷_ orAt after _>>=_
+own-places = (refl, refl, refl, refl, refl, refl, refl, refl, refl, refl)

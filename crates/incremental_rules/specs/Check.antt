@@ -51,22 +51,29 @@ nothing = record { start = 0; offset = 0; refused = noRefusal }
 unfoldable pub searchOf : Bool → List ℕ → ℕ → Index → Cells → ℕ → Found
 searchOf big f size x cells row = after (bucketInto big f size x cells row) nothing (x .count)
 
--- "Order: header, length, index object, free chain, bucket numbers and first rows, buckets in index order." `refused` is the
--- refusal so far. The buckets are refused alike whatever cell is asked for (proofs/AnyCell.antt).
-unfoldable pub refusalOf : Description → ℕ → List ℕ → Refusal → Refusal
-refusalOf d sequence f refused =
-    let h = headerAt f (d .big) in
-    let x = indexOf f (d .big) h in
+-- "Order: header, length, index object, free chain, bucket numbers and first rows, buckets in index order." The parts before the
+-- buckets, as stages, in a table of so many rows and this endianness; `refused` is the refusal so far. The question of one bucket
+-- (OneBucket.antt) has the same ones.
+unfoldable pub beforeBuckets : ℕ → Bool → List ℕ → Refusal → Refusal
+beforeBuckets rows big f refused =
+    let h = headerAt f big in
+    let x = indexOf f big h in
     refused
     ▷ h .refused
     ▷ orAt (longEnough (length f) (h .size) (h .count)) 1 (length f)
     ▷ x .refused
     ▷ orNo (freeOk f (h .size) (h .count) (h .«free_count») (h .«first_free»)) 10
-    ▷ orNo (indexFits (d .rows) (d .big) f h x) 11
-    ▷ searchOf (d .big) f (h .size) x (cellsOf d sequence 0) 0 .refused
+    ▷ orNo (indexFits rows big f h x) 11
 
--- The chapter as facts, in the order of that sentence, of a file with header h and index x.
-pub record FileAccepted (d : Description) (sequence : ℕ) (f : List ℕ) (h : Header) (x : Index) : Type 0 where
+-- Those stages, and that of the buckets, which are refused alike whatever cell is asked for (proofs/AnyCell.antt).
+unfoldable pub refusalOf : Description → ℕ → List ℕ → Refusal → Refusal
+refusalOf d sequence f refused =
+    let h = headerAt f (d .big) in
+    beforeBuckets (d .rows) (d .big) f refused
+    ▷ searchOf (d .big) f (h .size) (indexOf f (d .big) h) (cellsOf d sequence 0) 0 .refused
+
+-- The chapter as facts, in the order of that sentence, of a file with header h and index x: the parts before the buckets.
+pub record PartsAccepted (rows : ℕ) (big : Bool) (f : List ℕ) (h : Header) (x : Index) : Type 0 where
   -- "header"
   pub header : h .refused .number ≡ 0
   -- "length": 1 where "the file is shorter than 512 + buckets x bucket size"
@@ -76,11 +83,19 @@ pub record FileAccepted (d : Description) (sequence : ℕ) (f : List ℕ) (h : H
   -- "free chain"
   pub free : T (freeOk f (h .size) (h .count) (h .«free_count») (h .«first_free»))
   -- "bucket numbers and first rows"
-  pub numbers : IndexAccepted (d .rows) (d .big) f h x
-  -- "buckets in index order": each has the rows from its first row to the next one
-  pub buckets : (i : ℕ) → i < x .count
-      → BucketAccepted f (bucketStart (h .size) (bucketNumber (d .big) f x i)) (h .size) (d .big) (firstRow (d .big) f x (i + 1) - firstRow (d .big) f x i)
-      (cellsOf d sequence 0 .bytes) (cellsOf d sequence 0 .count)
+  pub numbers : IndexAccepted rows big f h x
+
+-- Bucket i of the index has the rows from its first row to the next one, and every column of the manager.
+abbrev pub EntryAccepted : Description → ℕ → List ℕ → Header → Index → ℕ → Type 0
+EntryAccepted d sequence f h x i =
+    BucketAccepted f (bucketStart (h .size) (bucketNumber (d .big) f x i)) (h .size) (d .big) (firstRow (d .big) f x (i + 1) - firstRow (d .big) f x i)
+    (cellsOf d sequence 0 .bytes) (cellsOf d sequence 0 .count)
+
+-- The parts and all buckets.
+pub record FileAccepted (d : Description) (sequence : ℕ) (f : List ℕ) (h : Header) (x : Index) : Type 0 where
+  pub parts : PartsAccepted (d .rows) (d .big) f h x
+  -- "buckets in index order"
+  pub buckets : (i : ℕ) → i < x .count → EntryAccepted d sequence f h x i
 
 abbrev pub Accepted : Description → ℕ → List ℕ → Type 0
 Accepted d sequence f = let h = headerAt f (d .big) in FileAccepted d sequence f h (indexOf f (d .big) h)
@@ -95,14 +110,17 @@ AcceptedExactly =
 abbrev pub firstBit : Found → ℕ
 firstBit found = 8 * (found .start + 4 + found .offset)
 
--- What the check of the manager's file tells, where the cell at a position and a row is asked for; "A refusal carries its number
--- and zeros", and beside them its byte. A position without a column of the file, or a row that is not there, has no cell, and gives
--- some number.
+-- What a check tells: "A refusal carries its number and zeros", and beside them its byte; else the bucket size, and the first bit of
+-- what its buckets' stage found.
+unfoldable pub told : Refusal → ℕ → Found → Checked
+told why size found =
+    cond (eqb (why .number) 0)
+    (record { refused = noRefusal; size = size; first = firstBit found })
+    (record { refused = why; size = 0; first = 0 })
+
+-- What the check of the manager's file tells, where the cell at a position and a row is asked for. A position without a column of the
+-- file, or a row that is not there, has no cell, and gives some number.
 unfoldable pub checkedAs : Description → ℕ → List ℕ → Refusal → ℕ → ℕ → Checked
 checkedAs d sequence f refused position row =
     let h = headerAt f (d .big) in
-    let found = searchOf (d .big) f (h .size) (indexOf f (d .big) h) (cellsOf d sequence position) row in
-    let why = refusalOf d sequence f refused in
-    cond (eqb (why .number) 0)
-    (record { refused = noRefusal; size = h .size; first = firstBit found })
-    (record { refused = why; size = 0; first = 0 })
+    told (refusalOf d sequence f refused) (h .size) (searchOf (d .big) f (h .size) (indexOf f (d .big) h) (cellsOf d sequence position) row)

@@ -4,3 +4,4 @@ pub mod Index
 pub mod Bucket
 pub mod Check
 pub mod Place
+pub mod OneBucket

@@ -6,8 +6,9 @@ use Rattle.lookup_rules.specs.declared.Question.{Question}
 use Rattle.lookup_rules.specs.declared.Verdict.{Verdict}
 use Rattle.lookup_rules.specs.declared.Planned.{Planned}
 use Rattle.lookup_rules.specs.declared.Placed.{Placed}
+use Rattle.lookup_rules.specs.declared.PlacedInBucket.{PlacedInBucket}
 use Rattle.lookup_rules.specs.Questions.{answerOf, roomAfter}
-use Rattle.lookup_rules.specs.Answers.{verdictOf, verdictRefusal, plannedOf, plannedRefusal, plannedPlan, placedOf, placedRefusal, placedBits, placedLooks, answerBits, answerLooks}
+use Rattle.lookup_rules.specs.Answers.{verdictOf, verdictRefusal, plannedOf, plannedRefusal, plannedPlan, placedOf, placedRefusal, placedBits, placedLooks, placedInBucketOf, inBucketRefusal, inBucketBits, inBucketSize, answerBits, answerLooks}
 use Rattle.lookup_rules.proofs.Said.{every-answer}
 
 module _ (t f : List ℕ) (q : Question) (l : ℕ) {room : List ℕ} (left : room ≡ roomAfter t f q l) where
@@ -25,3 +26,9 @@ module _ (t f : List ℕ) (q : Question) (l : ℕ) {room : List ℕ} (left : roo
       × ((placedRefusal r ≡ answerOf t f q l .refused) × (placedBits r ≡ answerBits (answerOf t f q l)) × (placedLooks r ≡ answerLooks (answerOf t f q l)))
   placed-says e =
       ((e, left), (ap placedRefusal e ∙ every-answer t f q l .placed, ap placedBits e ∙ every-answer t f q l .bits, ap placedLooks e ∙ every-answer t f q l .looks))
+
+  pub in-bucket-says : {r : PlacedInBucket} → r ≡ placedInBucketOf (answerOf t f q l)
+      → ((r ≡ placedInBucketOf (answerOf t f q l)) × (room ≡ roomAfter t f q l))
+      × ((inBucketRefusal r ≡ answerOf t f q l .refused) × (inBucketBits r ≡ answerBits (answerOf t f q l)) × (inBucketSize r ≡ answerOf t f q l .size))
+  in-bucket-says e =
+      ((e, left), (ap inBucketRefusal e ∙ every-answer t f q l .in-bucket, ap inBucketBits e ∙ every-answer t f q l .in-bucket-bits, ap inBucketSize e ∙ every-answer t f q l .in-bucket-size))

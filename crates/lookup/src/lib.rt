@@ -7,10 +7,12 @@ ghost use lib.ListN.{length};
 ghost use Prim.Native.Nat.{_+_, _/_};
 ghost use denote.Ref.{ptr};
 ghost use Rattle.lookup_rules.specs.Questions.{answerOf, roomAfter};
-ghost use Rattle.lookup_rules.specs.Answers.{verdictOf, verdictRefusal, plannedOf, plannedRefusal, plannedPlan, placedOf, placedRefusal, placedBits, placedLooks, answerBits, answerLooks, viewOf};
+ghost use Rattle.lookup_rules.specs.Answers.{verdictOf, verdictRefusal, plannedOf, plannedRefusal, plannedPlan, placedOf, placedRefusal, placedBits, placedLooks, placedInBucketOf, inBucketRefusal, inBucketBits, inBucketSize, answerBits, answerLooks, viewOf};
+ghost use Rattle.lookup_rules.specs.OneBucket.{OneBucket};
 use bytes_at::Refusal;
 use lookup_rules::Asked;
 use lookup_rules::Placed;
+use lookup_rules::PlacedInBucket;
 use lookup_rules::Plan;
 use lookup_rules::Planned;
 use lookup_rules::Question;
@@ -123,4 +125,21 @@ pub fn view_planned_refusal(
     let q = Question::View(row, Asked::Planned(plan));
     let a = crate::ask::ask(table, file, q, room);
     a.refused
+}
+
+// Place in one bucket, of a row and a column position in IncrementalStMan: of the buckets only the row's own is checked. On a file that
+// the full check accepts it answers as Place does; on any file what is checked, and no more, decides (`OneBucket`).
+pub fn place_in_bucket(
+    table: &[u8],
+    file: &[u8],
+    row: usize,
+    position: usize,
+    room: &mut [u8],
+) -> PlacedInBucket
+    ensures { λ r. ⌜ (r ≡ placedInBucketOf (answerOf (now (table .entry)) (now (file .entry)) (Question.PlaceInBucket row position) (length (now (room .entry))))) × (now (room .exit) ≡ roomAfter (now (table .entry)) (now (file .entry)) (Question.PlaceInBucket row position) (length (now (room .entry)))) ⌝ }
+    ensures says { λ r. ⌜ (inBucketRefusal r ≡ answerOf (now (table .entry)) (now (file .entry)) (Question.PlaceInBucket row position) (length (now (room .entry))) .refused) × (inBucketBits r ≡ answerBits (answerOf (now (table .entry)) (now (file .entry)) (Question.PlaceInBucket row position) (length (now (room .entry))))) × (inBucketSize r ≡ answerOf (now (table .entry)) (now (file .entry)) (Question.PlaceInBucket row position) (length (now (room .entry))) .size) ⌝ }
+    ensures one { λ _. ⌜ OneBucket (now (table .entry)) (now (file .entry)) row position (length (now (room .entry))) ⌝ }
+{
+    let a = crate::ask::ask(table, file, Question::PlaceInBucket(row, position), room);
+    lookup_question::types::placed_in_bucket(a)
 }

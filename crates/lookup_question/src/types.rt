@@ -3,9 +3,10 @@ ghost use mathlib.Core.Path.{_≡_};
 ghost use Prim.Native.Nat.{_+_, _/_};
 ghost use lib.ListN.{length, take, drop};
 ghost use denote.Ref.{ptr};
-ghost use Rattle.lookup_rules.specs.Answers.{verdictOf, plannedOf, placedOf, viewOf};
+ghost use Rattle.lookup_rules.specs.Answers.{verdictOf, plannedOf, placedOf, placedInBucketOf, viewOf};
 use lookup_rules::Answer;
 use lookup_rules::Placed;
+use lookup_rules::PlacedInBucket;
 use lookup_rules::Planned;
 use lookup_rules::Verdict;
 
@@ -43,6 +44,20 @@ pub fn placed(a: Answer) -> Placed
         };
     }
     Placed::Refused(refused)
+}
+
+pub fn placed_in_bucket(a: Answer) -> PlacedInBucket
+    ensures { λ r. ⌜ r ≡ placedInBucketOf a ⌝ }
+{
+    let refused = a.refused;
+    if refused.number == 0 {
+        return PlacedInBucket::At {
+            first: a.first,
+            count: a.count,
+            size: a.size,
+        };
+    }
+    PlacedInBucket::Refused(refused)
 }
 
 // As many of the len bytes from start as there are, and where they stand: in the block of s, after its first start bytes.

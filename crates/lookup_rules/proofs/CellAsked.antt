@@ -6,7 +6,7 @@ use Prim.Native.Nat.{ℕ, _<_}
 use lib.Dec.{T, ltb→lt}
 use Rattle.standard_rules.specs.Place.{Bits}
 use Rattle.lookup_rules.specs.declared.Question.{Question}
-use Rattle.lookup_rules.specs.declared.Question.the-variants.{Check, Prepare, Place, View}
+use Rattle.lookup_rules.specs.declared.Question.the-variants.{Check, Prepare, Place, View, PlaceInBucket}
 use Rattle.lookup_rules.specs.declared.Request.{Request}
 use Rattle.lookup_rules.specs.Questions.{requestOf, sequenceFor, isColumn, isBelow, noBits}
 
@@ -20,6 +20,7 @@ cell-asked (Check n) w = absurd w
 cell-asked (Prepare c) w = absurd w
 cell-asked (Place row a) w = record { cell = refl; column = refl }
 cell-asked (View row a) w = record { cell = refl; column = refl }
+cell-asked (PlaceInBucket row c) w = record { cell = refl; column = refl }
 
 pub cell-sequence : (r : Request) (own : ℕ) → Cell r → sequenceFor r own ≡ own
 cell-sequence r own w = rw (w .column)

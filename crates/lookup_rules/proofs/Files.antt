@@ -1,4 +1,5 @@
--- The check of a manager's file, by its kind. Its refusal, the bucket size and the set do not depend on the row that is asked for.
+-- The check of a manager's file, by its kind. Its refusal, the bucket size and the set do not depend on the row that is asked for, but
+-- where the row's own bucket alone is checked.
 -- Assumes nothing.
 use mathlib.Core.Path.{_≡_, refl, sym, ap, _∙_}
 use mathlib.Core.List.{List}
@@ -11,9 +12,12 @@ use Rattle.bytes_at.specs.declared.Refusal.{Refusal}
 use Rattle.bytes_at.proofs.Stages.{then-left, Clear}
 use Rattle.standard_rules.proofs.Exactly.{refusal-clear}
 use Rattle.incremental_rules.proofs.Exactly.{refusal-clear as incremental-clear}
+use Rattle.incremental_rules.proofs.Places.{own-clear, by-clear, by-parts}
 use Rattle.table_rules.specs.declared.Description.{Description}
 use Rattle.standard_rules.specs.Check.{refusalWith, checkedWith, refusalOf, checkedAs}
-use Rattle.incremental_rules.specs.Check.{refusalOf as incrementalRefusal, checkedAs as incrementalAs}
+use Rattle.incremental_rules.specs.declared.Found.{Found}
+use Rattle.incremental_rules.specs.Check.{told, checkedAs as incrementalAs}
+use Rattle.incremental_rules.specs.OneBucket.{ownChecked, refusalBy, checkedBy}
 use Rattle.lookup_rules.specs.declared.Target.{Target}
 use Rattle.lookup_rules.specs.declared.FileChecked.{FileChecked}
 use Rattle.lookup_rules.specs.Questions.{ofStandard, ofIncremental, fileOf, planFor}
@@ -25,20 +29,34 @@ check-passed d sequence f refused k l = elim (ℕ-discrete (refusalOf d sequence
   | no n ↦ rw (ne-eqb (refusalOf d sequence f refused l .number) 0 n)
 ]
 
-module _ (d : Description) (sequence : ℕ) (f : List ℕ) (refused : Refusal) (position : ℕ) where
-  incremental-passed : (row : ℕ) → incrementalAs d sequence f refused position row .refused ≡ incrementalRefusal d sequence f refused
-  unfolding incrementalAs
-  incremental-passed row = elim (ℕ-discrete (incrementalRefusal d sequence f refused .number) 0) [
-    | yes e ↦ rw (eq-eqb (incrementalRefusal d sequence f refused .number) 0 e) (sym (incremental-clear d sequence f refused e))
-    | no n ↦ rw (ne-eqb (incrementalRefusal d sequence f refused .number) 0 n)
-  ]
+told-refused : (why : Refusal) (size : ℕ) (found : Found) → Clear why → told why size found .refused ≡ why
+unfolding told
+told-refused why size found c = elim (ℕ-discrete (why .number) 0) [
+  | yes e ↦ rw (eq-eqb (why .number) 0 e) (sym (c e))
+  | no n ↦ rw (ne-eqb (why .number) 0 n)
+]
 
-  incremental-size : (row row′ : ℕ) → incrementalAs d sequence f refused position row .size ≡ incrementalAs d sequence f refused position row′ .size
-  unfolding incrementalAs
-  incremental-size row row′ = elim (ℕ-discrete (incrementalRefusal d sequence f refused .number) 0) [
-    | yes e ↦ rw (eq-eqb (incrementalRefusal d sequence f refused .number) 0 e)
-    | no n ↦ rw (ne-eqb (incrementalRefusal d sequence f refused .number) 0 n)
-  ]
+told-size : (why : Refusal) (size : ℕ) (found found′ : Found) → told why size found .size ≡ told why size found′ .size
+unfolding told
+told-size why size found found′ = elim (ℕ-discrete (why .number) 0) [
+  | yes e ↦ rw (eq-eqb (why .number) 0 e)
+  | no n ↦ rw (ne-eqb (why .number) 0 n)
+]
+
+module _ (d : Description) (sequence : ℕ) (f : List ℕ) (refused : Refusal) (position : ℕ) where
+  incremental-passed : (own : Bool) (row : ℕ) → checkedBy own d sequence f refused position row .refused ≡ refusalBy own d sequence f refused row
+  unfolding checkedBy ownChecked incrementalAs refusalBy
+  incremental-passed true row = told-refused _ _ _ (own-clear d sequence f refused row)
+  incremental-passed false row = told-refused _ _ _ (incremental-clear d sequence f refused)
+
+  incremental-size : (row row′ : ℕ) → checkedBy false d sequence f refused position row .size ≡ checkedBy false d sequence f refused position row′ .size
+  unfolding checkedBy incrementalAs
+  incremental-size row row′ = told-size _ _ _ _
+
+  -- the check of all buckets is refused alike whatever row is asked for
+  whole-refused : (row row′ : ℕ) → checkedBy false d sequence f refused position row .refused ≡ checkedBy false d sequence f refused position row′ .refused
+  unfolding refusalBy
+  whole-refused row row′ = incremental-passed false row ∙ sym (incremental-passed false row′)
 
 -- ---- the same in one of two ways
 cond-refused : (b : Bool) (x x′ y : FileChecked) → x .refused ≡ x′ .refused → cond b x y .refused ≡ cond b x′ y .refused
@@ -54,61 +72,55 @@ cond-set true x x′ y e = e
 cond-set false x x′ y e = refl
 
 module _ (d : Description) (g : Target) (f : List ℕ) (l : ℕ) where
-  pub file-standard : g .incremental ≡ false → (row : ℕ) → fileOf d g f row l ≡ ofStandard (checkedAs d (g .sequence) f (g .refused) (g .binding .set) l)
+  pub file-standard : g .incremental ≡ false → (own : Bool) (row : ℕ) → fileOf d g f own row l ≡ ofStandard (checkedAs d (g .sequence) f (g .refused) (g .binding .set) l)
   unfolding fileOf
-  file-standard e row = rw e
+  file-standard e own row = rw e
 
-  pub file-incremental : g .incremental ≡ true → (row : ℕ)
-      → fileOf d g f row l ≡ ofIncremental (incrementalAs d (g .sequence) f (g .refused) (g .position) row)
+  pub file-incremental : g .incremental ≡ true → (own : Bool) (row : ℕ)
+      → fileOf d g f own row l ≡ ofIncremental (checkedBy own d (g .sequence) f (g .refused) (g .position) row)
   unfolding fileOf
-  file-incremental e row = rw e
+  file-incremental e own row = rw e
 
-  pub standard-refused : g .incremental ≡ false → (row : ℕ) → fileOf d g f row l .refused ≡ refusalOf d (g .sequence) f (g .refused) l
-  standard-refused e row = ap (λ (m : FileChecked). m .refused) (file-standard e row) ∙ check-passed d (g .sequence) f (g .refused) (g .binding .set) l
+  pub standard-refused : g .incremental ≡ false → (own : Bool) (row : ℕ) → fileOf d g f own row l .refused ≡ refusalOf d (g .sequence) f (g .refused) l
+  standard-refused e own row = ap (λ (m : FileChecked). m .refused) (file-standard e own row) ∙ check-passed d (g .sequence) f (g .refused) (g .binding .set) l
 
-  pub incremental-refused : g .incremental ≡ true → (row : ℕ) → fileOf d g f row l .refused ≡ incrementalRefusal d (g .sequence) f (g .refused)
-  incremental-refused e row =
-      ap (λ (m : FileChecked). m .refused) (file-incremental e row) ∙ incremental-passed d (g .sequence) f (g .refused) (g .position) row
+  pub incremental-refused : g .incremental ≡ true → (own : Bool) (row : ℕ) → fileOf d g f own row l .refused ≡ refusalBy own d (g .sequence) f (g .refused) row
+  incremental-refused e own row =
+      ap (λ (m : FileChecked). m .refused) (file-incremental e own row) ∙ incremental-passed d (g .sequence) f (g .refused) (g .position) own row
 
   -- where nothing is refused, no byte is told
-  either-clear : (b : Bool) → g .incremental ≡ b → (row : ℕ) → Clear (fileOf d g f row l .refused)
-  either-clear true e row = rw (incremental-refused e row) (incremental-clear d (g .sequence) f (g .refused))
-  either-clear false e row = rw (standard-refused e row) (refusal-clear d (g .sequence) f (g .refused) l)
+  either-clear : (b : Bool) → g .incremental ≡ b → (own : Bool) (row : ℕ) → Clear (fileOf d g f own row l .refused)
+  either-clear true e own row = rw (incremental-refused e own row) (by-clear d (g .sequence) f (g .refused) row own)
+  either-clear false e own row = rw (standard-refused e own row) (refusal-clear d (g .sequence) f (g .refused) l)
 
-  pub checked-clear : (row : ℕ) → Clear (fileOf d g f row l .refused)
-  checked-clear row = either-clear (g .incremental) refl row
+  pub checked-clear : (own : Bool) (row : ℕ) → Clear (fileOf d g f own row l .refused)
+  checked-clear own row = either-clear (g .incremental) refl own row
 
-  -- whatever row is asked for
-  pub row-refused : (row row′ : ℕ) → fileOf d g f row l .refused ≡ fileOf d g f row′ l .refused
+  -- whatever row is asked for, where all buckets are checked
+  pub row-refused : (row row′ : ℕ) → fileOf d g f false row l .refused ≡ fileOf d g f false row′ l .refused
   unfolding fileOf
-  row-refused row row′ =
-      cond-refused (g .incremental) _ _ _
-      (incremental-passed d (g .sequence) f (g .refused) (g .position) row ∙ sym (incremental-passed d (g .sequence) f (g .refused) (g .position) row′))
+  row-refused row row′ = cond-refused (g .incremental) _ _ _ (whole-refused d (g .sequence) f (g .refused) (g .position) row row′)
 
-  row-size : (row row′ : ℕ) → fileOf d g f row l .size ≡ fileOf d g f row′ l .size
+  row-size : (row row′ : ℕ) → fileOf d g f false row l .size ≡ fileOf d g f false row′ l .size
   unfolding fileOf
   row-size row row′ = cond-size (g .incremental) _ _ _ (incremental-size d (g .sequence) f (g .refused) (g .position) row row′)
 
-  row-set : (row row′ : ℕ) → fileOf d g f row l .set ≡ fileOf d g f row′ l .set
+  row-set : (row row′ : ℕ) → fileOf d g f false row l .set ≡ fileOf d g f false row′ l .set
   unfolding fileOf
   row-set row row′ = cond-set (g .incremental) _ _ _ refl
 
-  pub row-plan : (row row′ : ℕ) → planFor g (fileOf d g f row l) ≡ planFor g (fileOf d g f row′ l)
+  pub row-plan : (row row′ : ℕ) → planFor g (fileOf d g f false row l) ≡ planFor g (fileOf d g f false row′ l)
   unfolding planFor _>>=_
   row-plan row row′ = rw (row-size row row′, row-set row row′)
 
   -- a file that is not refused has a manager and a column
-  incremental-target : g .incremental ≡ true → (row : ℕ) → fileOf d g f row l .refused .number ≡ 0 → g .refused .number ≡ 0
-  unfolding incrementalRefusal
-  incremental-target e row h = then-left _ _ (rw (incremental-refused e row) at h)
-
-  standard-target : g .incremental ≡ false → (row : ℕ) → fileOf d g f row l .refused .number ≡ 0 → g .refused .number ≡ 0
+  standard-target : g .incremental ≡ false → (own : Bool) (row : ℕ) → fileOf d g f own row l .refused .number ≡ 0 → g .refused .number ≡ 0
   unfolding refusalWith
-  standard-target e row h = then-left _ _ (rw (standard-refused e row) at h)
+  standard-target e own row h = then-left _ _ (rw (standard-refused e own row) at h)
 
-  either-target : (b : Bool) → g .incremental ≡ b → (row : ℕ) → fileOf d g f row l .refused .number ≡ 0 → g .refused .number ≡ 0
-  either-target true e row h = incremental-target e row h
-  either-target false e row h = standard-target e row h
+  either-target : (b : Bool) → g .incremental ≡ b → (own : Bool) (row : ℕ) → fileOf d g f own row l .refused .number ≡ 0 → g .refused .number ≡ 0
+  either-target true e own row h = by-parts d (g .sequence) f (g .refused) row own (rw (incremental-refused e own row) at h) .0
+  either-target false e own row h = standard-target e own row h
 
-  pub target-passed : (row : ℕ) → fileOf d g f row l .refused .number ≡ 0 → g .refused .number ≡ 0
-  target-passed row h = either-target (g .incremental) refl row h
+  pub target-passed : (own : Bool) (row : ℕ) → fileOf d g f own row l .refused .number ≡ 0 → g .refused .number ≡ 0
+  target-passed own row h = either-target (g .incremental) refl own row h

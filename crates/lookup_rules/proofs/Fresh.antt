@@ -34,7 +34,7 @@ module _ (t f : List ℕ) (c l : ℕ) where
   prepare-refused : stagesOf t f prepared l .refused ≡ checkedFor t f prepared l .refused
   unfolding stagesOf stagesAfter _>>=_
   prepare-refused =
-      unchanged _ 14 (clear-then _ _ (clear-or true 8 _)) ∙ unchanged _ 9 (clear-then _ _ (clear-or true 11 _)) ∙ unchanged _ 12 (checked-clear (describedAs t) _ f l 0)
+      unchanged _ 14 (clear-then _ _ (clear-or true 8 _)) ∙ unchanged _ 9 (clear-then _ _ (clear-or true 11 _)) ∙ unchanged _ 12 (checked-clear (describedAs t) _ f l false 0)
 
 module _ (t f : List ℕ) (p : Plan) (l : ℕ) where
   -- the request for it

@@ -10,9 +10,9 @@ use Rattle.table_rules.specs.declared.Kind.{Kind}
 use Rattle.table_rules.specs.declared.Kind.the-variants.{Incremental}
 use Rattle.table_rules.specs.declared.Description.{Description}
 use Rattle.table_rules.specs.Table.{describedAs, bindingIn}
-use Rattle.incremental_rules.specs.Check.{refusalOf}
 use Rattle.incremental_rules.specs.Place.{placeOf, Kept}
-use Rattle.incremental_rules.proofs.Places.{every-place}
+use Rattle.incremental_rules.specs.OneBucket.{refusalBy}
+use Rattle.incremental_rules.proofs.Places.{by-place}
 use Rattle.lookup_rules.specs.declared.Request.{Request}
 use Rattle.lookup_rules.specs.declared.Question.the-variants.{Place}
 use Rattle.lookup_rules.specs.Questions.{requestOf, kindWith, isIncremental, isPlaced, placeIn, answerFor}
@@ -45,10 +45,10 @@ module _ (t f : List ℕ) (sequence l : ℕ) (r : Request) (w : Cell r) (k : inI
   kind : targetFor t f r l .incremental ≡ true
   kind = target-kind d r ∙ ap (λ (x : Kind). isIncremental x) held-kind
 
-  pub accepted : refusalOf d (targetFor t f r l .sequence) f (targetFor t f r l .refused) .number ≡ 0
-  accepted = rw (incremental-refused d (targetFor t f r l) f l kind (r .row)) at (passed t f r l h .checked)
+  pub accepted : refusalBy (r .own) d (targetFor t f r l .sequence) f (targetFor t f r l .refused) (r .row) .number ≡ 0
+  accepted = rw (incremental-refused d (targetFor t f r l) f l kind (r .own) (r .row)) at (passed t f r l h .checked)
 
-  kept : Kept d (targetFor t f r l .sequence) (r .position)
+  pub kept : Kept d (targetFor t f r l .sequence) (r .position)
   kept = record {
     known = cell-column r _ w (passed t f r l h .column);
     bound = e ∙ sym own;
@@ -63,8 +63,8 @@ module _ (t f : List ℕ) (sequence l : ℕ) (r : Request) (w : Cell r) (k : inI
   pub safe : SafeThere t f (answerBits (answerFor t f r l)) (r .row)
   safe =
       rw same
-      (every-place d (targetFor t f r l .sequence) f (targetFor t f r l .refused) (described t .columns-most) accepted (r .position) (r .row) kept
-      (cell-row r _ w (passed t f r l h .row)))
+      (by-place d (targetFor t f r l .sequence) f (targetFor t f r l .refused) (r .row) (described t .columns-most) (r .position)
+      (cell-row r _ w (passed t f r l h .row)) (r .own) accepted kept)
 
 -- by position and by plan alike
 pub places-there : PlacesThere

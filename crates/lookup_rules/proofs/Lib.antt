@@ -11,3 +11,4 @@ pub mod Said
 pub mod Looks
 pub mod Views
 pub mod Blamed
+pub mod OneBucket

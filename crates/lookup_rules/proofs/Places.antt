@@ -52,7 +52,7 @@ module _ (t f : List ℕ) (sequence l : ℕ) (r : Request) (w : Cell r) (k : inS
       ∙ ap (λ (x : Kind). isIncremental x) k
 
   pub accepted : refusalOf (describedAs t) (targetFor t f r l .sequence) f (targetFor t f r l .refused) l .number ≡ 0
-  accepted = rw (standard-refused (describedAs t) (targetFor t f r l) f l kind (r .row)) at (passed t f r l h .checked)
+  accepted = rw (standard-refused (describedAs t) (targetFor t f r l) f l kind (r .own) (r .row)) at (passed t f r l h .checked)
 
   pub shown : Placed t f sequence (r .row) (r .position) (answerBits (answerFor t f r l))
   shown =

@@ -65,7 +65,7 @@ module _ (d : Description) (r : Request) where
   description-passed h = then-left _ _ (then-left _ _ h)
 
   pub target-held : targetOf d r .refused .number ≡ 0
-      → T (isHeld (kindWith (d .managers) (d .«manager_count») (targetOf d r .sequence)) (isPlaced r (columnIn d (r .position) .datatype .number)))
+      → T (isHeld (kindWith (d .managers) (d .«manager_count») (targetOf d r .sequence)) (isPlaced r (columnIn d (r .position) .datatype .number)) (r .own))
   unfolding targetOf _>>=_
   target-held h = or-passed _ 7 _ (then-right _ _ h)
 
@@ -160,7 +160,7 @@ passed t f r l h =
     let d = describedAs t in
     let z = rw (answer-refused t f r l) at h in
     let c = check-of t f r l z in
-    let g = target-passed d (targetFor t f r l) f l (r .row) c in
+    let g = target-passed d (targetFor t f r l) f l (r .own) (r .row) c in
     record {
       column = target-column d r g;
       held = g;

@@ -23,8 +23,8 @@ use Rattle.standard_rules.specs.Place.{Bits, placeOf, bucketIn, localRow}
 use Rattle.standard_rules.proofs.Places.{step, every-two}
 use Rattle.standard_rules.specs.Check.{longEnough, refusalWith, refusalOf}
 use Rattle.incremental_rules.specs.Header.{headerAt as incrementalHeader}
-use Rattle.incremental_rules.specs.Check.{refusalOf as incrementalRefusal}
 use Rattle.incremental_rules.specs.Place.{placeOf as incrementalPlace, bitOf}
+use Rattle.incremental_rules.proofs.Places.{by-parts}
 use Rattle.lookup_rules.specs.declared.Plan.{Plan}
 use Rattle.lookup_rules.specs.declared.Request.{Request}
 use Rattle.lookup_rules.specs.declared.Asked.{Asked}
@@ -57,13 +57,6 @@ long-enough : (d : Description) (sequence : ℕ) (f : List ℕ) (refused : Refus
     → 512 + mapOf d sequence f .count * mapOf d sequence f .size ≤ length f
 unfolding refusalWith mapWith
 long-enough d sequence f refused l h = leb→le _ _ (or-passed (longEnough (length f) (headerAt f (d .big) .size) (headerAt f (d .big) .count)) 0 (length f) (search (then-left, then-right) depth 9))
-
--- ---- in IncrementalStMan
-there-enough : (d : Description) (sequence : ℕ) (f : List ℕ) (refused : Refusal) → incrementalRefusal d sequence f refused .number ≡ 0
-    → 512 + incrementalHeader f (d .big) .count * incrementalHeader f (d .big) .size ≤ length f
-unfolding incrementalRefusal
-there-enough d sequence f refused h =
-    leb→le _ _ (or-passed (longEnough (length f) (incrementalHeader f (d .big) .size) (incrementalHeader f (d .big) .count)) 0 (length f) (search (then-left, then-right) depth 9))
 
 -- 8 x the bytes up to the cell's local row, and its bits
 even-first : (a k n : ℕ) → Even8 n → Even8 (8 * a + k * n)
@@ -107,7 +100,7 @@ module _ (t f : List ℕ) (l : ℕ) (r : Request) (w : Cell r) (h : answerFor t 
 
   module _ (k : kindWith (d .managers) (d .«manager_count») sequence ≡ Incremental) where
     there-long : 512 + incrementalHeader f (d .big) .count * incrementalHeader f (d .big) .size ≤ length f
-    there-long = there-enough d _ f _ (incremental.accepted t f sequence l r w k refl h)
+    there-long = by-parts d _ f _ (r .row) (r .own) (incremental.accepted t f sequence l r w k refl h) .1 .long
 
     incremental-even : (n : ℕ) → Even8 (incrementalPlace d n f c (r .row) .first)
     unfolding incrementalPlace bitOf

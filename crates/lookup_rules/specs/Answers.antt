@@ -19,6 +19,8 @@ use Rattle.lookup_rules.specs.declared.Planned.{Planned}
 use Rattle.lookup_rules.specs.declared.Planned.the-variants.{Ready, Refused as NotPlanned}
 use Rattle.lookup_rules.specs.declared.Placed.{Placed}
 use Rattle.lookup_rules.specs.declared.Placed.the-variants.{At, Refused as NotPlaced}
+use Rattle.lookup_rules.specs.declared.PlacedInBucket.{PlacedInBucket}
+use Rattle.lookup_rules.specs.declared.PlacedInBucket.the-variants.{At as InBucket, Refused as NotInBucket}
 use Rattle.lookup_rules.specs.Questions.{noPlan, noBits, noLooks, answerOf}
 
 -- File check
@@ -58,6 +60,22 @@ abbrev pub placedLooks : Placed → Looks
 placedLooks (At first count looks entries) = record { looks = looks; entries = entries }
 placedLooks (NotPlaced why) = noLooks
 
+-- Place in one bucket: "the row's bucket gives the place"
+unfoldable pub placedInBucketOf : Answer → PlacedInBucket
+placedInBucketOf a = cond (eqb (a .refused .number) 0) (InBucket (a .first) (a .count) (a .size)) (NotInBucket (a .refused))
+
+abbrev pub inBucketRefusal : PlacedInBucket → Refusal
+inBucketRefusal (InBucket first count size) = noRefusal
+inBucketRefusal (NotInBucket why) = why
+
+abbrev pub inBucketBits : PlacedInBucket → Bits
+inBucketBits (InBucket first count size) = record { first = first; count = count }
+inBucketBits (NotInBucket why) = noBits
+
+abbrev pub inBucketSize : PlacedInBucket → ℕ
+inBucketSize (InBucket first count size) = size
+inBucketSize (NotInBucket why) = 0
+
 -- the bits, and the looks, of an answer
 abbrev pub answerBits : Answer → Bits
 answerBits a = record { first = a .first; count = a .count }
@@ -77,6 +95,9 @@ pub record Says (a : Answer) : Type 0 where
   pub placed : placedRefusal (placedOf a) ≡ a .refused
   pub bits : placedBits (placedOf a) ≡ answerBits a
   pub looks : placedLooks (placedOf a) ≡ answerLooks a
+  pub in-bucket : inBucketRefusal (placedInBucketOf a) ≡ a .refused
+  pub in-bucket-bits : inBucketBits (placedInBucketOf a) ≡ answerBits a
+  pub in-bucket-size : inBucketSize (placedInBucketOf a) ≡ a .size
 
 abbrev pub EveryAnswer : Type 0
 EveryAnswer = (t f : List ℕ) (q : Question) (l : ℕ) → Says (answerOf t f q l)

@@ -22,13 +22,13 @@ use Rattle.standard_rules.specs.Check.{checkedAs, padded}
 use Rattle.standard_rules.specs.Place.{Bits, placeOf}
 use Rattle.standard_rules.specs.Looks.{Looks, looksOf}
 use Rattle.incremental_rules.specs.declared.Checked.{Checked as IncrementalChecked}
-use Rattle.incremental_rules.specs.Check.{checkedAs as incrementalAs}
 use Rattle.incremental_rules.specs.Place.{placeOf as incrementalPlace}
+use Rattle.incremental_rules.specs.OneBucket.{checkedBy}
 use Rattle.lookup_rules.specs.declared.Plan.{Plan}
 use Rattle.lookup_rules.specs.declared.Asked.{Asked}
 use Rattle.lookup_rules.specs.declared.Asked.the-variants.{Position, Planned}
 use Rattle.lookup_rules.specs.declared.Question.{Question}
-use Rattle.lookup_rules.specs.declared.Question.the-variants.{Check, Prepare, Place, View}
+use Rattle.lookup_rules.specs.declared.Question.the-variants.{Check, Prepare, Place, View, PlaceInBucket}
 use Rattle.lookup_rules.specs.declared.Request.{Request}
 use Rattle.lookup_rules.specs.declared.Target.{Target}
 use Rattle.lookup_rules.specs.declared.FileChecked.{FileChecked}
@@ -59,6 +59,7 @@ cellOf row a view = record {
   cell = true;
   view = view;
   planned = isPlanned a;
+  own = false;
   sequence = 0;
   row = row;
   position = columnOf a;
@@ -68,11 +69,13 @@ cellOf row a view = record {
 -- a question, read once; what it does not ask for is 0
 abbrev pub requestOf : Question → Request
 requestOf (Check n) =
-    record { column = false; cell = false; view = false; planned = false; sequence = n; row = 0; position = 0; plan = noPlan }
+    record { column = false; cell = false; view = false; planned = false; own = false; sequence = n; row = 0; position = 0; plan = noPlan }
 requestOf (Prepare c) =
-    record { column = true; cell = false; view = false; planned = false; sequence = 0; row = 0; position = c; plan = noPlan }
+    record { column = true; cell = false; view = false; planned = false; own = false; sequence = 0; row = 0; position = c; plan = noPlan }
 requestOf (Place row a) = cellOf row a false
 requestOf (View row a) = cellOf row a true
+requestOf (PlaceInBucket row c) =
+    record { column = true; cell = true; view = false; planned = false; own = true; sequence = 0; row = row; position = c; plan = noPlan }
 
 -- ---- "manager and column (8)"
 -- whether the column exists, where one is asked for
@@ -99,11 +102,12 @@ isIncremental Incremental = true
 abbrev pub isPlaced : Request → ℕ → Bool
 isPlaced r datatype = r .column ⇒ not (isString datatype)
 
--- whether a question can be asked of a manager of a kind; "columns of other kinds are described, and have no place"
-abbrev pub isHeld : Kind → Bool → Bool
-isHeld Other placed = false
-isHeld Standard placed = true
-isHeld Incremental placed = placed
+-- whether a question can be asked of a manager of a kind; "columns of other kinds are described, and have no place"; the question of
+-- the row's own bucket is IncrementalStMan's
+abbrev pub isHeld : Kind → Bool → Bool → Bool
+isHeld Other placed own = false
+isHeld Standard placed own = not own
+isHeld Incremental placed own = placed
 
 -- "no such column or manager, or the manager is not of the asked kind": 8
 unfoldable pub targetOf : Description → Request → Target
@@ -115,22 +119,22 @@ targetOf d r = do
   kind ← kindWith (d .managers) (d .«manager_count») sequence
   c ← columnIn d (r .position)
   placed ← isPlaced r (c .datatype .number)
-  held ← isHeld kind placed
+  held ← isHeld kind placed (r .own)
   r2 ← r1 ▷ orNo held 8
   incremental ← isIncremental kind
   record { refused = r2; position = r .position; sequence = sequence; incremental = incremental; column = c; binding = b }
 
--- ---- "file check", by the manager's kind
+-- ---- "file check", by the manager's kind; in IncrementalStMan whole or, with the row (9) ahead of the bucket, of the row's own bucket
 abbrev pub ofStandard : Checked → FileChecked
 ofStandard m = record { refused = m .refused; size = m .size; set = m .set; first = 0 }
 
 abbrev pub ofIncremental : IncrementalChecked → FileChecked
 ofIncremental m = record { refused = m .refused; size = m .size; set = noSet; first = m .first }
 
-unfoldable pub fileOf : Description → Target → List ℕ → ℕ → ℕ → FileChecked
-fileOf d g f row l =
+unfoldable pub fileOf : Description → Target → List ℕ → Bool → ℕ → ℕ → FileChecked
+fileOf d g f own row l =
     let standard = ofStandard (checkedAs d (g .sequence) f (g .refused) (g .binding .set) l) in
-    let incremental = ofIncremental (incrementalAs d (g .sequence) f (g .refused) (g .position) row) in
+    let incremental = ofIncremental (checkedBy own d (g .sequence) f (g .refused) (g .position) row) in
     cond (g .incremental) incremental standard
 
 -- ---- "plan (12)"
@@ -204,7 +208,7 @@ unfoldable pub stagesOf : List ℕ → List ℕ → Request → ℕ → Staged
 stagesOf t f r l = do
   d ← describedAs t
   g ← targetOf d r
-  m ← fileOf d g f (r .row) l
+  m ← fileOf d g f (r .own) (r .row) l
   stagesAfter r g m (d .rows) (d .big)
 
 -- ---- what is answered

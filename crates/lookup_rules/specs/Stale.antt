@@ -24,7 +24,7 @@ pub record Stale (t f : List ℕ) (p : Plan) (l : ℕ) : Type 0 where
 
 -- what the stages before the plan's give, and the plan that would be made now
 abbrev pub checkedFor : List ℕ → List ℕ → Request → ℕ → FileChecked
-checkedFor t f r l = fileOf (describedAs t) (targetOf (describedAs t) r) f (r .row) l
+checkedFor t f r l = fileOf (describedAs t) (targetOf (describedAs t) r) f (r .own) (r .row) l
 
 abbrev pub planOfNow : List ℕ → List ℕ → Request → ℕ → Plan
 planOfNow t f r l = planFor (targetOf (describedAs t) r) (checkedFor t f r l)

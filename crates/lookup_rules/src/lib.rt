@@ -24,21 +24,24 @@ pub enum Asked {
     Planned(Plan),
 }
 
-// A question: the check of a sequence number's file; the plan of a column's position; the place, or the view, of a row's cell.
+// A question: the check of a sequence number's file; the plan of a column's position; the place, or the view, of a row's cell; the
+// place of the cell of a row and a column's position by the row's bucket alone, in IncrementalStMan.
 pub enum Question {
     Check(usize),
     Prepare(usize),
     Place(usize, Asked),
     View(usize, Asked),
+    PlaceInBucket(usize, usize),
 }
 
-// A question, read once: whether it asks for a column, for a cell of the column, for the cell's view, and whether by a prepared plan;
-// the sequence number that a check is for, the row, the column's position, and the plan. What it does not ask for is 0.
+// A question, read once: whether it asks for a column, for a cell of the column, for the cell's view, whether by a prepared plan, and
+// whether by the row's own bucket, the only one of an IncrementalStMan file that is then checked; the sequence number that a check is for, the row, the column's position, and the plan. What it does not ask for is 0.
 pub struct Request {
     pub column: bool,
     pub cell: bool,
     pub view: bool,
     pub planned: bool,
+    pub own: bool,
     pub sequence: usize,
     pub row: usize,
     pub position: usize,
@@ -105,6 +108,16 @@ pub enum Placed {
         count: usize,
         looks: usize,
         entries: usize,
+    },
+    Refused(Refusal),
+}
+
+// The place by the row's bucket alone, and the file's bucket size. No last rows are looked at.
+pub enum PlacedInBucket {
+    At {
+        first: usize,
+        count: usize,
+        size: usize,
     },
     Refused(Refusal),
 }

@@ -23,7 +23,7 @@ use Rattle.standard_rules.specs.Header.{headerAt}
 use Rattle.standard_rules.specs.Index.{noSet, indexTextOf}
 use Rattle.standard_rules.specs.declared.Checked.{Checked}
 use Rattle.incremental_rules.specs.declared.Checked.{Checked as IncrementalChecked}
-use Rattle.incremental_rules.specs.Check.{checkedAs as incrementalAs}
+use Rattle.incremental_rules.specs.OneBucket.{checkedBy}
 use Rattle.lookup_rules.specs.declared.Request.{Request}
 use Rattle.lookup_rules.specs.declared.FileChecked.{FileChecked}
 use Rattle.lookup_rules.specs.declared.Staged.{Staged}
@@ -75,16 +75,16 @@ target-found t r {d} e a x y h =
 
 -- all stages, from those after the file's check
 module _ (t f : List ℕ) (r : Request) (l : ℕ) {d : Description} (e : d ≡ describedAs t) {g : Target} (h : g ≡ targetOf d r) where
-  all-stages : {m : FileChecked} {s : Staged} → m ≡ fileOf d g f (r .row) l → s ≡ stagesAfter r g m (d .rows) (d .big) → s ≡ stagesOf t f r l
+  all-stages : {m : FileChecked} {s : Staged} → m ≡ fileOf d g f (r .own) (r .row) l → s ≡ stagesAfter r g m (d .rows) (d .big) → s ≡ stagesOf t f r l
   unfolding stagesOf _>>=_
   all-stages p q = rw (← e, ← h, ← p) q
 
   pub stages-there : {m : IncrementalChecked} {none : Set} {s : Staged} → g .incremental ≡ true
-      → m ≡ incrementalAs d (g .sequence) f (g .refused) (g .position) (r .row) → none ≡ noSet
+      → m ≡ checkedBy (r .own) d (g .sequence) f (g .refused) (g .position) (r .row) → none ≡ noSet
       → s ≡ stagesAfter r g (record { refused = m .refused; size = m .size; set = none; first = m .first }) (d .rows) (d .big) → s ≡ stagesOf t f r l
-  stages-there k p n q = all-stages (rw (file-incremental d g f l k (r .row), p, n)) q
+  stages-there k p n q = all-stages (rw (file-incremental d g f l k (r .own) (r .row), p, n)) q
 
   pub stages-here : {m : Checked} {cs : List MapColumn} {s : Staged} → g .incremental ≡ false → columnsOf d (g .sequence) ≡ cs
       → m ≡ checkedWith (d .rows) (d .big) cs f (g .refused) (g .binding .set) l
       → s ≡ stagesAfter r g (record { refused = m .refused; size = m .size; set = m .set; first = 0 }) (d .rows) (d .big) → s ≡ stagesOf t f r l
-  stages-here k i p q = all-stages (rw (file-standard d g f l k (r .row), i, p)) q
+  stages-here k i p q = all-stages (rw (file-standard d g f l k (r .own) (r .row), i, p)) q

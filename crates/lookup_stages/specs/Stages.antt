@@ -19,7 +19,7 @@ targetBy refused columns managers count c b r = do
   sequence ← sequenceFor r (b .sequence)
   kind ← kindWith managers count sequence
   placed ← isPlaced r (c .datatype .number)
-  held ← isHeld kind placed
+  held ← isHeld kind placed (r .own)
   r2 ← r1 ▷ orNo held 8
   incremental ← isIncremental kind
   record { refused = r2; position = r .position; sequence = sequence; incremental = incremental; column = c; binding = b }

@@ -65,7 +65,7 @@ pub fn stages(table: &[u8], file: &[u8], r: Request, room: &mut [u8]) -> Staged
         r,
     );
     if g.incremental {
-        let there = incremental::check(d, file, g.sequence, g.refused, g.position, r.row);
+        let there = incremental::check(d, file, g.sequence, g.refused, g.position, r.row, r.own);
         let none = standard_index::text::no_set();
         let refused = there.refused;
         let found = FileChecked {

@@ -74,13 +74,13 @@ pub fn is_incremental(kind: Kind) -> bool
     }
 }
 
-// Whether a question can be asked of a manager of the kind.
-pub fn is_held(kind: Kind, placed: bool) -> bool
-    ensures { λ r. ⌜ r ≡ isHeld kind placed ⌝ }
+// Whether a question can be asked of a manager of the kind; that of the row's own bucket is IncrementalStMan's.
+pub fn is_held(kind: Kind, placed: bool, own: bool) -> bool
+    ensures { λ r. ⌜ r ≡ isHeld kind placed own ⌝ }
 {
     match kind {
         Kind::Other => false,
-        Kind::Standard => true,
+        Kind::Standard => !own,
         Kind::Incremental => placed,
     }
 }
@@ -105,7 +105,7 @@ pub fn find_target(
     let kind = kind_with(managers, count, sequence);
     let t = c.datatype;
     let placed = lookup_question::tests::is_placed(r, t.number as usize);
-    let held = is_held(kind, placed);
+    let held = is_held(kind, placed, r.own);
     let r2 = lookup_question::tests::stage(r1, held, 8);
     let incremental = is_incremental(kind);
     Target {

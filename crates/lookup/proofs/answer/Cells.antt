@@ -27,9 +27,9 @@ use Rattle.standard_rules.specs.Header.{headerAt}
 use Rattle.standard_rules.specs.Index.{noSet, indexAt, indexTextOf}
 use Rattle.standard_index.specs.Bounds.{SetInside}
 use Rattle.standard_index.proofs.text.IndexLaws.{longer}
-use Rattle.incremental_rules.specs.Check.{checkedAs as incrementalAs}
+use Rattle.incremental_rules.specs.OneBucket.{checkedBy}
 use Rattle.incremental_rules.specs.Place.{placeOf as incrementalPlace}
-use Rattle.incremental_rules.proofs.Places.{checked-there}
+use Rattle.incremental_rules.proofs.Places.{by-there}
 use Rattle.standard_rules.specs.Looks.{Looks, looksOf}
 use Rattle.standard_rules.specs.declared.Entry.{Entry}
 use Rattle.standard.specs.declared.Located.{Located}
@@ -89,10 +89,10 @@ module _ (t f : List ℕ) (r : Request) (l : ℕ) (z : stagesOf t f r l .refused
   own = sym (target-sequence d r ∙ cell-sequence r (b .sequence) w)
 
   passes : refusalOf d sequence f before l .number ≡ 0
-  passes = rw (standard-refused d (targetOf d r) f l k row) at (check-of t f r l z)
+  passes = rw (standard-refused d (targetOf d r) f l k (r .own) row) at (check-of t f r l z)
 
   known : c < d .«column_count»
-  known = cell-column r (d .«column_count») w (target-column d r (target-passed d (targetOf d r) f l row (check-of t f r l z)))
+  known = cell-column r (d .«column_count») w (target-column d r (target-passed d (targetOf d r) f l (r .own) row (check-of t f r l z)))
 
   below : row < d .rows
   below = cell-row r (d .rows) w (row-passed t f r l z)
@@ -114,8 +114,8 @@ module _ (t f : List ℕ) (r : Request) (l : ℕ) (z : stagesOf t f r l .refused
   covered = rw (set-same d sequence f before l (b .set) listed) at (set-covered d sequence f before l passes (b .set) listed)
 
   -- what the stages hand over
-  file-is : fileOf d (targetOf d r) f row l ≡ ofStandard (checkedAs d sequence f before (targetOf d r .binding .set) l)
-  file-is = file-standard d (targetOf d r) f l k row
+  file-is : fileOf d (targetOf d r) f (r .own) row l ≡ ofStandard (checkedAs d sequence f before (targetOf d r .binding .set) l)
+  file-is = file-standard d (targetOf d r) f l k (r .own) row
 
   set-is : stagesOf t f r l .set ≡ x
   set-is =
@@ -189,16 +189,16 @@ module _ (t f : List ℕ) (r : Request) (l : ℕ) (k : targetOf (describedAs t) 
       let g = targetOf d r in
       let passed = check-of t f r l z in
       stages-first t f r l
-      ∙ ap (λ (m : FileChecked). m .first) (file-incremental d g f l k (r .row))
-      ∙ ap (λ (c : ℕ). incrementalAs d (g .sequence) f (g .refused) c (r .row) .first) (target-position d r)
-      ∙ checked-there d (g .sequence) f (g .refused)
-      (rw (incremental-refused d g f l k (r .row)) at passed)
+      ∙ ap (λ (m : FileChecked). m .first) (file-incremental d g f l k (r .own) (r .row))
+      ∙ ap (λ (c : ℕ). checkedBy (r .own) d (g .sequence) f (g .refused) c (r .row) .first) (target-position d r)
+      ∙ by-there d (g .sequence) f (g .refused) (r .row)
       (described t .columns-most)
       (r .position)
-      (r .row)
-      (cell-column r (d .«column_count») w (target-column d r (target-passed d g f l (r .row) passed)))
-      (sym (target-sequence d r ∙ cell-sequence r (bindingIn d (r .position) .sequence) w))
       (cell-row r (d .rows) w (row-passed t f r l z))
+      (r .own)
+      (rw (incremental-refused d g f l k (r .own) (r .row)) at passed)
+      (cell-column r (d .«column_count») w (target-column d r (target-passed d g f l (r .own) (r .row) passed)))
+      (sym (target-sequence d r ∙ cell-sequence r (bindingIn d (r .position) .sequence) w))
 
   there-count : stagesOf t f r l .plan .bits ≡ incrementalPlace (describedAs t) (targetOf (describedAs t) r .sequence) f (r .position) (r .row) .count
   unfolding planFor incrementalPlace _>>=_

@@ -15,7 +15,10 @@ read-spec =
     free
     (λ c. search needs)
     free
+    (λ c. search needs)
+    free
     (λ c. rw (c .before .before .q .given .1, c .no-plan .ensures))
     (λ c. rw (c .before .before .q2 .given .1, c .no-plan2 .ensures))
     (λ c. rw (c .before .before .q3 .given .1) (c .read-cell .ensures))
-    (λ c. rw (c .before .before .q4 .given .1) (c .read-cell2 .ensures)))
+    (λ c. rw (c .before .before .q4 .given .1) (c .read-cell2 .ensures))
+    (λ c. rw (c .before .before .q5 .given .1, c .no-plan3 .ensures)))
