@@ -49,10 +49,12 @@ expect 0 "no difference" --min 13000 --each 1..7 --bytes table,file,text,little-
 expect 0 "no difference" --min 18000 torn -- "$model"
 expect 0 "no difference" --min 108000 types , types 1 1000 -- "$model"
 expect 0 "no difference" --min 10000 --each 1..14 --bytes file,text,little-file,little-text standard 1 10000 -- "$model"
-expect 0 "no difference" --min 10000 --each 1..12 --bytes file,little-file incremental 1 10000 -- "$model"
+expect 0 "no difference" --min 10000 --each 1..12 --each-of place1:1..11 --bytes file,little-file \
+    incremental 1 10000 -- "$model"
 expect 0 "no difference" --min 10000 --each 1..14 small-file -- "$model"
 expect 0 "no difference" --min 15000 looks -- "$model"
-expect 0 "no difference" --min 15000 rows -- "$model"
+expect 0 "no difference" --min 16000 rows -- "$model"
+expect 0 "no difference" --min 7900 --each-of place1:1..11 one-bucket -- "$model"
 expect 0 "no difference" --min 10 files-large 1 10 -- "$model"
 
 expect 1 "difference at request" tables 1 3000 -- sh -c "'$model' | sed 's/^refused 7/refused 1/'"
@@ -89,6 +91,13 @@ done
 expect 1 "difference at request" rows -- sh -c "sed -E 's/^(place .*) 4294967296 ([01] 0)\$/\1 0 \2/' | '$model'"
 expect 1 "difference at request" incremental 1 2000 -- sh -c "'$model' | sed -E 's/^refused 4 [0-9]+ /refused 11 0 /'"
 expect 1 "difference at request" standard 1 2000 -- sh -c "'$model' | sed -E 's/^refused 4 (9|1)[0-9]+ /refused 11 0 /'"
+# Place in one bucket: a full check, a row that is not there after the buckets, the byte of a bucket 0, a room that is kept, a look,
+# a place of a String or of StandardStMan, and 9 in place of what comes before the row.
+expect 1 "difference at request" one-bucket -- sh -c "sed 's/^place1/place/' | '$model' | sed -E 's/$placed 0 /\1 /'"
+for change in 's/^refused 9 0 /refused 11 0 /' 's/^refused 1 [0-9]+ /refused 1 0 /' 's/^(refused 11 0) 00/\1 a5/' \
+    "s/$placed 00/\1 a5/" "s/$placed /\1 0 /" 's/^refused 8 0 /ok 0 96 /' 's/^refused 10 0 /refused 9 0 /'; do
+    expect 1 "difference at request" one-bucket -- sh -c "'$model' | sed -E '$change'"
+done
 # The byte: one more, 0 in its place, not there, in a room's place, and in an answer that is not refused; not in a listing.
 for change in 's/^(refused . [0-9]*)3( |$)/\14\2/' 's/^(refused .) [0-9]+/\1 0/' 's/^(refused .) [0-9]+/\1/' \
     's/^(refused .) [0-9]+ [0-9a-f-]+$/\1 0/' 's/^ok SSM/ok 0 SSM/' 's/^(726566757365642...)20.*0a$/\10a/'; do
@@ -110,6 +119,7 @@ expect 1 "ended with" tables 1 100 -- sh -c "'$model'; exit 3"
 expect 1 "does not start" tables 1 100 -- "$scratch/none"
 expect 1 "are needed" --min 101 tables 1 100 -- "$model"
 expect 1 "did not occur: 9" --each 1..9 tables 1 3000 -- "$model"
+expect 1 "did not occur with place1: 12, 13" --each-of place1:11..13 one-bucket -- "$model"
 expect 1 "with a byte of the text: 1, 2, 3, 4, 6, 7" --bytes table,text tables 1 3000 -- "$model"
 expect 1 "with a byte of the file: 2, 3, 5, 6" --bytes file torn -- "$model"
 expect 2 "usage" tables -- "$model"
@@ -118,6 +128,7 @@ expect 2 "usage" tables -- "$model"
 ends_with 0 ../campaign 5 1234 -- "$model"
 says "^1234 requests compared, no difference"
 says "^elementbits *24 "
+says "^place1 "
 for count in 1 2 5 49 50 99; do
     ends_with 0 ../campaign 5 "$count" -- "$model"
     says "^$count requests compared, no difference"
@@ -138,7 +149,7 @@ for set in tables types standard incremental; do
     "$bin/requests" "$set" 1 200 >"$scratch/requests"
     "$bin/requests" "$set" 1 200 | cmp - "$scratch/requests"
 done
-for set in fields torn looks rows; do
+for set in fields torn looks rows one-bucket; do
     "$bin/requests" "$set" >"$scratch/requests"
     "$bin/requests" "$set" | cmp - "$scratch/requests"
 done

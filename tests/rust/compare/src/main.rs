@@ -58,6 +58,9 @@ fn run(options: &Options) -> Result<(), String> {
         return Err(format!("the command answered all requests, but ended with {status}"));
     }
     print!("{tally}");
+    for (question, each) in &options.each_of {
+        tally.check_question(question, each.clone())?;
+    }
     tally.check(options.min, options.each.clone(), &options.bytes)
 }
 

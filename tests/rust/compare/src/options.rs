@@ -11,6 +11,8 @@ pub struct Options {
     pub min: u64,
     /// The refusal numbers that must occur.
     pub each: RangeInclusive<usize>,
+    /// The same of one question, by its word.
+    pub each_of: Vec<(String, RangeInclusive<usize>)>,
     /// Where each refusal number that can blame a field there must do so.
     pub bytes: Vec<Part>,
     /// Where the first request with a difference goes.
@@ -36,6 +38,8 @@ also if COMMAND gives too few or too many answers or ends with an error.
 
   --min TOTAL      fail if there are fewer requests
   --each FROM..TO  fail if one of these refusal numbers does not occur
+  --each-of QUESTION:FROM..TO
+                   the same of one question; may be given for several
   --bytes PART[,PART]..
                    fail if a refusal number does not occur with a byte above 0
                    in this part, though it can: table, info, file, text,
@@ -57,6 +61,7 @@ impl Options {
         let mut options = Self {
             min: 0,
             each: RangeInclusive::new(1, 0),
+            each_of: Vec::new(),
             bytes: Vec::new(),
             save: PathBuf::from("target/tests/difference.txt"),
             replay: None,
@@ -75,6 +80,9 @@ impl Options {
                     options.min = value.parse().map_err(|_| format!("no number: {value}"))?
                 }
                 "--each" => options.each = range(value).ok_or(format!("no range: {value}"))?,
+                "--each-of" => {
+                    options.each_of.push(of_question(value).ok_or(format!("no range: {value}"))?)
+                }
                 "--bytes" => options.bytes = parts(value).ok_or(format!("no parts: {value}"))?,
                 "--save" => options.save = PathBuf::from(value),
                 "--replay" => options.replay = Some(PathBuf::from(value)),
@@ -97,6 +105,12 @@ fn range(text: &str) -> Option<RangeInclusive<usize>> {
     let (from, to) = text.split_once("..")?;
     let range = from.parse().ok()?..=to.parse().ok()?;
     (*range.start() > 0 && *range.end() < crate::tally::NUMBERS).then_some(range)
+}
+
+/// `QUESTION:FROM..TO`.
+fn of_question(text: &str) -> Option<(String, RangeInclusive<usize>)> {
+    let (question, numbers) = text.split_once(':')?;
+    Some((question.to_string(), range(numbers)?))
 }
 
 /// Names of parts with commas between them.
@@ -151,6 +165,15 @@ mod tests {
     }
 
     #[test]
+    fn one_question() {
+        let options =
+            parse("--each-of place1:1..11 --each-of plan:8..8 one-bucket -- cat").unwrap();
+        let expected = [("place1".to_string(), 1..=11), ("plan".to_string(), 8..=8)];
+        assert_eq!((options.each_of, options.sets), (expected.into(), vec![Set::OneBucket]));
+        assert!(usage().contains("\n  one-bucket "));
+    }
+
+    #[test]
     fn faulty_lines() {
         for line in [
             "prefixes",
@@ -163,6 +186,9 @@ mod tests {
             "--each 1-8 prefixes -- cat",
             "--every 1..8 prefixes -- cat",
             "--each 1..15 prefixes -- cat",
+            "--each-of 1..8 prefixes -- cat",
+            "--each-of place1 prefixes -- cat",
+            "--each-of place1:0..8 prefixes -- cat",
             "--bytes  prefixes -- cat",
             "--bytes table,index prefixes -- cat",
             "--replay -- cat",
@@ -170,6 +196,7 @@ mod tests {
             "types 1 -- cat",
             "looks 1 2 -- cat",
             "rows 1 -- cat",
+            "one-bucket 1 2 -- cat",
         ] {
             assert!(parse(line).is_err(), "{line}");
         }

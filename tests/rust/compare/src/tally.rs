@@ -49,6 +49,17 @@ impl Tally {
         self.bytes.get(&part).map_or(0, |counts| counts[number])
     }
 
+    /// Fails if a refusal number of this question is missing.
+    pub fn check_question(
+        &self,
+        question: &str,
+        each: RangeInclusive<usize>,
+    ) -> Result<(), String> {
+        let counts = self.questions.get(question).copied().unwrap_or_default();
+        let missing = each.filter(|number| counts[*number] == 0);
+        none(missing, &format!("refusal numbers that did not occur with {question}"))
+    }
+
     /// Fails if there were too few requests, or a refusal number is missing, at
     /// all or with a byte of one of these parts.
     pub fn check(
@@ -152,6 +163,10 @@ mod tests {
         assert!(tally.check(8, 1..=1, &[]).is_err());
         assert!(tally.check(7, 1..=2, &[]).is_err());
         assert!(tally.to_string().contains("\nelementbits               1 "));
+        assert!(tally.check_question("check", 14..=14).is_ok());
+        assert!(tally.check_question("column", 14..=14).is_err());
+        let missing = tally.check_question("place1", 8..=9).unwrap_err();
+        assert!(missing.ends_with("with place1: 8, 9"), "{missing}");
     }
 
     /// The answer of the model to a question about a sample after a change.

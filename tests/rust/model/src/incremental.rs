@@ -11,19 +11,35 @@ use crate::table::{Column, Description};
 /// A bucket begins with the offset of its index; the data part follows it.
 const DATA_START: u32 = 4;
 
-/// A file that was checked.
-#[derive(Clone, Copy, Debug)]
+/// A file that was checked, with its buckets or without.
+#[derive(Clone, Debug)]
 pub struct IncrementalFile<'a> {
     buckets: Buckets<'a>,
     /// Of each bucket in the index, and the row count.
     first_rows: Numbers<'a>,
     /// The buckets in the index.
     numbers: Numbers<'a>,
+    /// Of each column of the manager, the bytes of a value that are judged.
+    sizes: Vec<u32>,
 }
 
 impl<'a> IncrementalFile<'a> {
     /// Checks the file of a manager.
     pub fn check(
+        description: &Description<'_>,
+        manager: u32,
+        file: &'a [u8],
+    ) -> Result<Self, Refusal> {
+        let file = Self::check_but_buckets(description, manager, file)?;
+        for entry in 0..file.numbers.count() {
+            file.check_bucket(entry)?;
+        }
+        Ok(file)
+    }
+
+    /// All that comes before the buckets: header, length, index, free list,
+    /// bucket numbers and first rows.
+    pub fn check_but_buckets(
         description: &Description<'_>,
         manager: u32,
         file: &'a [u8],
@@ -37,12 +53,9 @@ impl<'a> IncrementalFile<'a> {
         let buckets = Buckets::new(file, start, order)?;
         let (first_rows, numbers) = read_index(buckets.after())?;
         let free = buckets.free_list(first_free, free_count)?;
-        let file = Self { buckets, first_rows, numbers };
+        let sizes = description.columns_of(manager).map(judged_size).collect();
+        let file = Self { buckets, first_rows, numbers, sizes };
         file.check_index(free, description.rows)?;
-        let sizes: Vec<u32> = description.columns_of(manager).map(judged_size).collect();
-        for entry in 0..numbers.count() {
-            file.check_bucket(entry, &sizes)?;
-        }
         Ok(file)
     }
 
@@ -60,15 +73,14 @@ impl<'a> IncrementalFile<'a> {
         Ok(())
     }
 
-    /// A bucket's index: the first rows and the offsets of each column's
-    /// values, of which `sizes` are judged.
-    fn check_bucket(&self, entry: usize, sizes: &[u32]) -> Result<(), Refusal> {
+    /// A bucket's index: the first rows and the offsets of each column's values.
+    fn check_bucket(&self, entry: usize) -> Result<(), Refusal> {
         let Bucket { offset, starts, mut index } = self.bucket(entry)?;
         if offset < DATA_START {
             return Err(WRONG_MAP);
         }
         let rows = self.first_row(entry + 1) - self.first_row(entry);
-        for size in sizes {
+        for size in &self.sizes {
             check_values(&mut index, starts, rows, *size, offset - DATA_START)?;
         }
         Ok(())
@@ -93,11 +105,23 @@ impl<'a> IncrementalFile<'a> {
         self.buckets.size()
     }
 
-    /// The first bit of a cell; the row is one of the table's, and the column
-    /// is the manager's column number `column`.
+    /// The last bucket whose first row is not above the row, which is one of the
+    /// table's.
+    fn entry(&self, row: u64) -> usize {
+        self.first_rows.partition_point(|first| first <= row) - 1
+    }
+
+    /// The first bit of a cell, of whose file only what comes before the buckets
+    /// was checked: now the row's own bucket is, for all columns.
+    pub fn checked_first_bit(&self, column: usize, row: u64) -> Result<u64, Refusal> {
+        self.check_bucket(self.entry(row))?;
+        Ok(self.first_bit(column, row))
+    }
+
+    /// The first bit of a cell; the row is one of the table's, its bucket was
+    /// checked, and the column is the manager's column number `column`.
     pub fn first_bit(&self, column: usize, row: u64) -> u64 {
-        // The last bucket whose first row is not above the row.
-        let entry = self.first_rows.partition_point(|first| first <= row) - 1;
+        let entry = self.entry(row);
         let local_row = row - self.first_row(entry);
         let offset = self.value_offset(entry, column, local_row).expect("the bucket was checked");
         let bucket = self.numbers.at(entry) as usize;

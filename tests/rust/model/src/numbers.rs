@@ -1,7 +1,7 @@
 //! The answers as runs of numbers, in the order of include/helvidrane.h. The last
 //! number of each is the byte that a refusal blames.
 
-use crate::question::{self, Placed, Plan};
+use crate::question::{self, InBucket, Placed, Plan};
 use crate::refusal::{NO_SUCH, Refusal};
 use crate::table::{self, Kind, describe};
 use std::ops::Range;
@@ -113,6 +113,20 @@ pub fn place_planned(
     room: &mut [u8],
 ) -> Result<[u64; 5], Refusal> {
     question::place_by_plan(table, file, row, &Plan::of(plan), room).map(placed)
+}
+
+/// First bit and bit count of a cell, and bucket size, where only the row's own
+/// bucket is checked.
+pub fn place_in_bucket(
+    table: &[u8],
+    file: &[u8],
+    row: u64,
+    position: u64,
+    room: &mut [u8],
+) -> Result<[u64; 4], Refusal> {
+    let InBucket { first_bit, bit_count, bucket_size } =
+        question::place_in_bucket(table, file, row, position, room)?;
+    Ok([first_bit, bit_count, bucket_size, NO_BYTE])
 }
 
 /// Start and length, in bytes, of the part of the file that holds a cell.

@@ -1,4 +1,5 @@
-//! The questions File check, Plan, Place and View: RULES.md 7.
+//! The questions File check, Plan, Place, Place in one bucket and View: RULES.md
+//! 7.
 //!
 //! Each is lent an index room. After a refusal it is all zero, and for
 //! IncrementalStMan always; after acceptance in StandardStMan it holds the
@@ -77,6 +78,15 @@ pub struct Placed {
     pub entries: u64,
 }
 
+/// The answer of Place in one bucket.
+#[derive(Clone, Copy, Debug, PartialEq, Eq)]
+pub struct InBucket {
+    /// Counted from the file's start.
+    pub first_bit: u64,
+    pub bit_count: u64,
+    pub bucket_size: u64,
+}
+
 /// Checks the file of the manager with this sequence number; gives its kind.
 pub fn check(table: &[u8], number: u64, file: &[u8], room: &mut [u8]) -> Result<Kind, Refusal> {
     Ok(check_file(table, number, file, room)?.0)
@@ -127,6 +137,29 @@ pub fn place_by_plan(
         asked.expect_plan(plan)?;
         asked.place(row)
     })
+}
+
+/// A cell's bits in IncrementalStMan, where of all buckets only the row's own is
+/// checked; the row comes before it.
+pub fn place_in_bucket(
+    table: &[u8],
+    file: &[u8],
+    row: u64,
+    position: u64,
+    room: &mut [u8],
+) -> Result<InBucket, Refusal> {
+    room.fill(0);
+    let description = describe(table)?;
+    let target = Target::new(&description, position)?;
+    if target.manager.kind != Kind::Incremental {
+        return Err(NO_SUCH);
+    }
+    let number = target.manager.number;
+    let file = IncrementalFile::check_but_buckets(&description, number, file)?;
+    target.expect_row(row)?;
+    let first_bit = file.checked_first_bit(target.number_in_manager(), row)?;
+    let (bit_count, bucket_size) = (target.cell_bits(), file.bucket_size() as u64);
+    Ok(InBucket { first_bit, bit_count, bucket_size })
 }
 
 /// The part of the file that holds a cell.
@@ -199,16 +232,54 @@ fn ask<T>(
 ) -> Result<T, Refusal> {
     zero_if_refused(room, |room| {
         let description = describe(table)?;
-        let index = usize::try_from(position).map_err(|_| NO_SUCH)?;
-        let column = description.columns.get(index).ok_or(NO_SUCH)?;
+        let target = Target::new(&description, position)?;
+        let file = File::check(&description, target.manager, file, room)?;
+        question(&Asked { target, file })
+    })
+}
+
+/// A column that is asked about, and its manager.
+struct Target<'a> {
+    description: &'a Description<'a>,
+    position: usize,
+    column: &'a Column<'a>,
+    manager: &'a Manager<'a>,
+}
+
+impl<'a> Target<'a> {
+    /// The column at this position, if cells of its type have places.
+    fn new(description: &'a Description<'a>, position: u64) -> Result<Self, Refusal> {
+        let position = usize::try_from(position).map_err(|_| NO_SUCH)?;
+        let column = description.columns.get(position).ok_or(NO_SUCH)?;
         let mut managers = description.managers.iter();
         let manager = managers.find(|manager| manager.number == column.manager).ok_or(NO_SUCH)?;
         if manager.kind == Kind::Incremental && column.data_type == DataType::String {
             return Err(NO_SUCH);
         }
-        let file = File::check(&description, manager, file, room)?;
-        question(&Asked { description: &description, position: index, column, file })
-    })
+        Ok(Self { description, position, column, manager })
+    }
+
+    /// How many columns of the manager come before it.
+    fn number_in_manager(&self) -> usize {
+        let earlier = &self.description.columns[..self.position];
+        earlier.iter().filter(|column| column.manager == self.manager.number).count()
+    }
+
+    /// In IncrementalStMan, cells take whole bytes.
+    fn cell_bits(&self) -> u64 {
+        let bits = u64::from(self.column.cell_bits);
+        match self.manager.kind {
+            Kind::Incremental => bits.next_multiple_of(8),
+            _ => bits,
+        }
+    }
+
+    fn expect_row(&self, row: u64) -> Result<(), Refusal> {
+        if row >= self.description.rows {
+            return Err(NO_ROW);
+        }
+        Ok(())
+    }
 }
 
 /// A file that was checked.
@@ -245,34 +316,23 @@ impl<'a> File<'a> {
 
 /// A column that is asked about, and its manager's file.
 struct Asked<'a> {
-    description: &'a Description<'a>,
-    position: usize,
-    column: &'a Column<'a>,
+    target: Target<'a>,
     file: File<'a>,
 }
 
 impl Asked<'_> {
-    /// In IncrementalStMan, cells take whole bytes.
-    fn cell_bits(&self) -> u64 {
-        let bits = u64::from(self.column.cell_bits);
-        match self.file {
-            File::Standard(_) => bits,
-            File::Incremental(_) => bits.next_multiple_of(8),
-        }
-    }
-
     fn plan(&self) -> Plan {
-        let column = self.column;
+        let column = self.target.column;
         let (set, offset, rows_per_bucket) = match &self.file {
             File::Standard(file) => (column.set, column.offset, file.rows_per_bucket(column.set)),
             File::Incremental(_) => (0, 0, 0),
         };
         Plan {
-            position: self.position as u64,
+            position: self.target.position as u64,
             manager: column.manager.into(),
             data_type: column.data_type.number() as u64,
             elements: column.elements.into(),
-            cell_bits: self.cell_bits(),
+            cell_bits: self.target.cell_bits(),
             set,
             offset,
             rows_per_bucket: rows_per_bucket.into(),
@@ -288,27 +348,22 @@ impl Asked<'_> {
     }
 
     fn place(&self, row: u64) -> Result<Placed, Refusal> {
-        if row >= self.description.rows {
-            return Err(NO_ROW);
-        }
-        let set = self.column.set;
+        self.target.expect_row(row)?;
+        let column = self.target.column;
+        let set = column.set;
         let (first_bit, looks, entries) = match &self.file {
             File::Standard(file) => {
-                (file.first_bit(self.column, row), file.looks(set, row), file.entries(set))
+                (file.first_bit(column, row), file.looks(set, row), file.entries(set))
             }
-            File::Incremental(file) => {
-                let earlier = &self.description.columns[..self.position];
-                let manager = self.column.manager;
-                let before = earlier.iter().filter(|column| column.manager == manager).count();
-                (file.first_bit(before, row), 0, 0)
-            }
+            File::Incremental(file) => (file.first_bit(self.target.number_in_manager(), row), 0, 0),
         };
-        Ok(Placed { first_bit, bit_count: self.cell_bits(), looks, entries })
+        Ok(Placed { first_bit, bit_count: self.target.cell_bits(), looks, entries })
     }
 
     fn view(&self, row: u64) -> Result<Range<usize>, Refusal> {
         let Placed { first_bit, bit_count, .. } = self.place(row)?;
-        if matches!(self.file, File::Standard(_)) && self.column.data_type == DataType::Bool {
+        if matches!(self.file, File::Standard(_)) && self.target.column.data_type == DataType::Bool
+        {
             return Err(BOOL_VIEW);
         }
         let start = (first_bit / 8) as usize;

@@ -1,7 +1,7 @@
 //! Answers to request lines: one question a line, its fields separated by one
 //! space, bytes in lower-case hex, numbers in decimal digits.
 
-use crate::question::{self, Placed, Plan};
+use crate::question::{self, InBucket, Placed, Plan};
 use crate::refusal::Refusal;
 use crate::table::{Description, Kind, column, describe};
 use crate::{element_bits, hex, listing};
@@ -48,6 +48,12 @@ fn answer_request(line: &str) -> Option<String> {
             let (row, plan, mut room) = (number(row)?, plan_of(plan)?, lent(room)?);
             let answer = question::place_by_plan(&table, &file, row, &plan, &mut room);
             room_line(answer.map(place_text), &room)
+        }
+        ["place1", table, file, row, position, room] => {
+            let (table, file) = (hex::decode(table)?, hex::decode(file)?);
+            let (row, position, mut room) = (number(row)?, number(position)?, lent(room)?);
+            let answer = question::place_in_bucket(&table, &file, row, position, &mut room);
+            room_line(answer.map(in_bucket_text), &room)
         }
         ["view", table, file, row, position, room] => {
             let (table, file) = (hex::decode(table)?, hex::decode(file)?);
@@ -111,6 +117,11 @@ fn kind_name(kind: Kind) -> String {
 /// The entries of a set are no part of a line.
 fn place_text(placed: Placed) -> String {
     format!("{} {} {}", placed.first_bit, placed.bit_count, placed.looks)
+}
+
+/// The bucket size is no part of a line.
+fn in_bucket_text(placed: InBucket) -> String {
+    format!("{} {}", placed.first_bit, placed.bit_count)
 }
 
 /// A view's start in the file and its length.

@@ -32,6 +32,8 @@ impl<F> Subject<F> {
 
 /// A file of either kind. Its cells can be placed as long as it is good.
 pub trait BucketFile: Clone {
+    const IS_INCREMENTAL: bool;
+
     fn buckets(&self) -> &Buckets;
     fn buckets_mut(&mut self) -> &mut Buckets;
     /// The mark and the header's object.

@@ -159,6 +159,8 @@ impl IncrementalFile {
 }
 
 impl BucketFile for IncrementalFile {
+    const IS_INCREMENTAL: bool = true;
+
     fn buckets(&self) -> &Buckets {
         &self.buckets
     }

@@ -23,6 +23,7 @@ pub mod layout;
 pub mod lean;
 pub mod looks;
 pub mod objects;
+pub mod one_bucket;
 pub mod order;
 pub mod questions;
 pub mod record;

@@ -222,6 +222,7 @@ fn refused_lines(rng: &mut Rng, asked: &Asked, room: usize) -> Vec<String> {
     others[0] = position;
     lines.push(asked.planned_cell("placeplan", row, &others, room));
     lines.push(asked.cell("place", row, asked.plans.len() as u64, room));
+    lines.push(asked.cell("place1", row, position, room));
     let short = asked.index_length.saturating_sub(1);
     lines.push(asked.cell("place", row, position, short));
     lines.push(asked.planned_cell("placeplan", row, &fresh, short));
@@ -232,7 +233,7 @@ fn refused_lines(rng: &mut Rng, asked: &Asked, room: usize) -> Vec<String> {
     lines
 }
 
-/// Place of rows in each bucket, by position and by plan.
+/// Place of rows in each bucket, by position, by plan and in one bucket.
 fn incremental_lines(number: u64, subject: &Subject<IncrementalFile>) -> Vec<String> {
     let rng = &mut Rng::new(SEED + 5, number);
     let asked = Asked::new(subject);
@@ -242,6 +243,10 @@ fn incremental_lines(number: u64, subject: &Subject<IncrementalFile>) -> Vec<Str
         let (row, position) = (*first, rng.pick(&asked.own[0]));
         lines.push(asked.cell("place", row, position as u64, room));
         lines.push(asked.planned_cell("placeplan", row, &asked.plans[position], room));
+        // It tells no looks.
+        if rng.chance(1, 2) {
+            lines.push(asked.cell("place1", row, position as u64, room));
+        }
     }
     lines.extend(refused_lines(rng, &asked, room));
     lines

@@ -18,6 +18,8 @@ pub struct Asked {
     pub file: Vec<u8>,
     /// The sequence number of the file's manager.
     pub number: u32,
+    /// Whether it is of IncrementalStMan.
+    pub is_incremental: bool,
     /// The sequence numbers of all managers.
     pub numbers: Vec<u32>,
     pub rows: u64,
@@ -57,6 +59,7 @@ impl Asked {
             table: table.encode(),
             file: file.encode(),
             number: *number,
+            is_incremental: F::IS_INCREMENTAL,
             numbers: table.managers().iter().map(|manager| manager.number).collect(),
             rows: table.rows(),
             border_rows: file.border_rows(),
@@ -77,7 +80,7 @@ impl Asked {
         self.line("plan", &format!("{position} {room}"))
     }
 
-    /// Place or view, by their word.
+    /// Place, Place in one bucket or view, by their word.
     pub fn cell(&self, word: &str, row: u64, position: u64, room: usize) -> String {
         self.line(word, &format!("{row} {position} {room}"))
     }
@@ -93,10 +96,18 @@ impl Asked {
     }
 
     /// One of the questions that check the file, each in its turn, about a
-    /// column that has places.
+    /// column that has places. Place in one bucket, which has none of
+    /// StandardStMan, is about rows of all buckets.
     pub fn in_turn(&self, turn: usize) -> String {
         let (row, column) = (0, self.own[0][0]);
         let (position, plan, room) = (column as u64, &self.plans[column], SAMPLE_ROOM);
+        let every = if self.is_incremental { 7 } else { 101 };
+        if turn % every == every - 1 {
+            let turn = turn / every;
+            let row = self.border_rows.get(turn % self.border_rows.len().max(1));
+            let room = [0, 1, 7, room][turn % 4];
+            return self.cell("place1", row.copied().unwrap_or(0), position, room);
+        }
         match turn % 6 {
             0 => self.check(self.number.into(), room),
             1 => self.plan(position, room),
@@ -112,6 +123,10 @@ impl Asked {
         let room = self.room(rng);
         // Without columns only the check comes to the file.
         let no_columns = self.own.iter().all(Vec::is_empty);
+        let in_one_bucket = if self.is_incremental { 8 } else { 1 };
+        if !no_columns && rng.chance(in_one_bucket, 40) {
+            return self.cell("place1", self.some_row(rng), self.some_position(rng), room);
+        }
         let word = if no_columns && rng.chance(3, 4) { 0 } else { rng.below(40) };
         match word {
             0..=8 => self.check(self.some_number(rng), room),

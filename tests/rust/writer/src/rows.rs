@@ -40,16 +40,25 @@ pub fn lines() -> impl Iterator<Item = String> + Send {
     tables.chain(standard).chain(incremental).chain(many)
 }
 
-/// The check; and of a good file of few rows, Place of every cell.
+/// The check; of a good file of few rows, Place of every cell; and of other files
+/// of IncrementalStMan, Place in one bucket.
 fn case_lines<F: BucketFile>((subject, expect): &Case<Subject<F>>) -> Vec<String> {
     let asked = Asked::new(subject);
     let room = if asked.index_length <= ROOM { ROOM } else { asked.index_length };
     let mut lines = vec![asked.check(asked.number.into(), room)];
     if *expect == Accepted && asked.rows < 20 {
         for position in &asked.own[0] {
+            // In IncrementalStMan one of three in one bucket.
+            let word = |row: u64| match (F::IS_INCREMENTAL, (row + *position as u64) % 3) {
+                (true, 0) => "place1",
+                _ => "place",
+            };
             let rows = 0..=asked.rows;
-            lines.extend(rows.map(|row| asked.cell("place", row, *position as u64, room)));
+            lines.extend(rows.map(|row| asked.cell(word(row), row, *position as u64, room)));
         }
+    } else if F::IS_INCREMENTAL {
+        let position = asked.own[0][0] as u64;
+        lines.push(asked.cell("place1", asked.rows / 2, position, 1));
     }
     lines
 }
@@ -399,8 +408,8 @@ fn beside_powers(rows: u64, column: usize) -> Vec<u64> {
     starts
 }
 
-/// Place, by position and by plan, and View of rows beside borders and powers of
-/// two, at the end and past it, and of those that have the same low half.
+/// Place, by position, by plan and in one bucket, and View of rows beside borders
+/// and powers of two, at the end and past it, and of those that have the same low half.
 fn row_lines(subject: &Subject<IncrementalFile>) -> Vec<String> {
     let asked = Asked::new(subject);
     let mut lines = vec![asked.check(0, 0)];
@@ -410,6 +419,7 @@ fn row_lines(subject: &Subject<IncrementalFile>) -> Vec<String> {
         lines.push(match turn % 5 {
             0 => asked.planned_cell("placeplan", row, plan, 0),
             1 => asked.cell("view", row, position as u64, 1),
+            2 => asked.cell("place1", row, position as u64, 1),
             _ => asked.cell("place", row, position as u64, 0),
         });
     }

@@ -9,6 +9,7 @@ use crate::large_files;
 use crate::layout::{Layout, Part};
 use crate::lean;
 use crate::looks;
+use crate::one_bucket;
 use crate::rng::Rng;
 use crate::rows;
 use crate::samples;
@@ -39,6 +40,8 @@ torn               the samples' files, cut off at one byte after the other
 looks              Place in good files whose sets have 1 to 3,900 entries
 rows               row numbers of 64 bits: every mixture of versions, tables of more
                    rows than 32 bits can count, and their refused neighbours
+one-bucket         Place in one bucket: IncrementalStMan files of several buckets, good
+                   and with faults in the row's bucket, in another one, and before
 files-large [SEED COUNT]
                    files of 4,096 buckets, or with the largest buckets
 small-file         the small file of RULES.md 11, its cases and variants of them";
@@ -58,6 +61,7 @@ pub enum Set {
     Torn,
     Looks,
     Rows,
+    OneBucket,
     FilesLarge { seed: u64, count: u64 },
     SmallFile,
 }
@@ -89,6 +93,7 @@ impl Set {
             ["torn"] => Self::Torn,
             ["looks"] => Self::Looks,
             ["rows"] => Self::Rows,
+            ["one-bucket"] => Self::OneBucket,
             ["files-large"] => Self::FilesLarge { seed: 1, count: 60 },
             ["files-large", seed, count] => {
                 Self::FilesLarge { seed: number(seed)?, count: number(count)? }
@@ -154,6 +159,7 @@ impl Set {
             Self::Torn => Box::new(torn::lines()),
             Self::Looks => Box::new(looks::lines()),
             Self::Rows => Box::new(rows::lines()),
+            Self::OneBucket => Box::new(one_bucket::lines()),
             Self::FilesLarge { seed, count } => Box::new((0..count).map(move |number| {
                 let rng = &mut Rng::new(seed, number);
                 large_files::case(rng, number).question(rng)
@@ -418,6 +424,25 @@ fn bad() -> Vec<String> {
         "place - - 0 0 0 0",
         "place - - 0 y 0",
         "place - - 0, 0 0",
+        "place1",
+        "place1 - - 0 0",
+        "place1 - - 0 0 0 0",
+        "place1 - - 0 0 - 0",
+        "place1 - - 0 0 -",
+        "place1 - - - 0 0",
+        "place1 - - -1 0 0",
+        "place1 - - 0 -1 0",
+        "place1 - - 0 z 0",
+        "place1 - 0 0 0 0",
+        "place1 0 - 0 0 0",
+        "place1 - - 18446744073709551616 0 0",
+        "place1 - - 0 18446744073709551616 0",
+        "place1 - - 0 0 1048577",
+        "place1 - - 0 0,0,0,0,0,0,0,0,0 0",
+        "Place1 - - 0 0 0",
+        "place2 - - 0 0 0",
+        "place 1 - - 0 0 0",
+        "placein - - 0 0 0",
         "view - - 0 0",
         "view - - 18446744073709551616 0 0",
         "placeplan - - 0 0 0",
@@ -470,6 +495,8 @@ fn bad() -> Vec<String> {
     lines.push(format!("check {good} 0 {good} -"));
     lines.push(format!("plan {good} {good} 0"));
     lines.push(format!("place {good} {good} 0 0 1048577"));
+    lines.push(format!("place1 {good} {good} 0 0 1048577"));
+    lines.push(format!("place1 {good} {good} 0 0"));
     lines.push(format!("elementbits {good}"));
     for digit in ["9", "1"] {
         let digits = digit.repeat(4096);

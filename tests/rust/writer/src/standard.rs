@@ -196,6 +196,8 @@ impl StandardFile {
 }
 
 impl BucketFile for StandardFile {
+    const IS_INCREMENTAL: bool = false;
+
     fn buckets(&self) -> &Buckets {
         &self.buckets
     }

@@ -4,7 +4,7 @@ mod common;
 
 use common::assert_answer;
 use model::refusal::{BOOL_VIEW, NO_SUCH, WRONG_MAP};
-use model::{Placed, Refusal};
+use model::{InBucket, Placed, Refusal};
 use writer::bucket_faults::{Fault, two_faults};
 use writer::buckets::{BucketFile, Subject};
 use writer::objects::Expect;
@@ -31,8 +31,9 @@ fn assert_refusal<F: BucketFile>(subject: &Subject<F>, expect: Expect, what: &st
     assert_answer(refusal(subject), expect, &format!("{what}, case {number}"));
 }
 
-/// A good file is accepted, every cell is where the writer put it, and the
-/// search looks at as many last rows as the writer counts.
+/// A good file is accepted, every cell is where the writer put it, in
+/// IncrementalStMan also if one bucket is checked, and the search looks at as many
+/// last rows as the writer counts.
 fn assert_cells<F: BucketFile>(subject: &Subject<F>, number: u64, is_standard: bool) {
     let table = subject.table.encode();
     let file = subject.file.encode();
@@ -57,6 +58,8 @@ fn assert_cells<F: BucketFile>(subject: &Subject<F>, number: u64, is_standard: b
         if !subject.file.has_place(column) {
             assert_eq!(plan, Err(NO_SUCH), "case {number}");
             assert_eq!(model::place(&table, &file, 0, position, &mut room), Err(NO_SUCH));
+            let answer = model::place_in_bucket(&table, &file, 0, position, &mut room);
+            assert_eq!(answer, Err(NO_SUCH), "case {number}");
             continue;
         }
         let plan = plan.unwrap();
@@ -69,6 +72,13 @@ fn assert_cells<F: BucketFile>(subject: &Subject<F>, number: u64, is_standard: b
             assert_eq!(place, expected, "case {number}, row {row}");
             let place = model::place_by_plan(&table, &file, row, &plan, &mut room);
             assert_eq!(place, expected, "case {number}, row {row}");
+            let bucket_size = subject.file.buckets().size.into();
+            let in_bucket = match is_standard {
+                true => Err(NO_SUCH),
+                false => Ok(InBucket { first_bit: first, bit_count: bits, bucket_size }),
+            };
+            let place = model::place_in_bucket(&table, &file, row, position, &mut room);
+            assert_eq!(place, in_bucket, "case {number}, row {row}");
             let view = model::view(&table, &file, row, position, &mut room);
             if is_standard && column.data_type == BOOL.number {
                 assert_eq!(view, Err(BOOL_VIEW));
