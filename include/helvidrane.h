@@ -37,7 +37,8 @@
  * Room. hv_check, hv_plan, hv_place and hv_view are lent a room for the index text of a StandardStMan file. It needs the
  * file's index length, else HV_REFUSED_ROOM; HV_ROOM_MOST bytes are always enough. An IncrementalStMan file needs none (0
  * bytes will do). Afterwards the whole room is zero where the function refused and for every IncrementalStMan file; else it
- * holds the index text, then zeros.
+ * holds the index text, then zeros. hv_place_in_bucket, which is about IncrementalStMan files alone, is lent a room as the others
+ * are: of any length, 0 too, and all zero afterwards.
  *
  * The functions keep nothing between calls, allocate nothing and may run in several threads at once.
  */
@@ -53,7 +54,7 @@ extern "C" {
 
 /* The version: here, and nowhere else. */
 #define HV_VERSION_MAJOR 3
-#define HV_VERSION_MINOR 0
+#define HV_VERSION_MINOR 1
 #define HV_VERSION_PATCH 0
 #define HV_IN_QUOTES(major, minor, patch) #major "." #minor "." #patch
 #define HV_QUOTED(major, minor, patch) HV_IN_QUOTES(major, minor, patch)
@@ -193,6 +194,18 @@ enum hv_place_number {
     HV_PLACE_LEN
 };
 
+/*
+ * The numbers of hv_place_in_bucket. First bit and bit count are as in a place; the bucket is
+ * (first bit / 8 - 512) / bucket size.
+ */
+enum hv_in_bucket_number {
+    HV_IN_BUCKET_FIRST_BIT,
+    HV_IN_BUCKET_BIT_COUNT,
+    HV_IN_BUCKET_BUCKET_SIZE, /* of the file, in bytes */
+    HV_IN_BUCKET_BYTE,
+    HV_IN_BUCKET_LEN
+};
+
 /* The numbers of a view. Start and length are counted in bytes, from the file's start. */
 enum hv_view_number { HV_VIEW_START, HV_VIEW_LENGTH, HV_VIEW_BYTE, HV_VIEW_LEN };
 
@@ -254,6 +267,18 @@ enum hv_number hv_place(const uint8_t *table, size_t table_len, const uint8_t *f
 enum hv_number hv_place_planned(const uint8_t *table, size_t table_len, const uint8_t *file, size_t file_len, uint64_t row,
                                 const uint64_t *plan, size_t plan_len, uint8_t *room, size_t room_len, uint64_t *out,
                                 size_t out_len);
+
+/*
+ * Place in one bucket, of a column that IncrementalStMan keeps, by row and column position. It checks table.dat, and of the file the
+ * header, the length, the index, the free chain, the bucket numbers and the first rows; then the row; and of the buckets only the
+ * row's own, whole, for all columns. So its time grows with the index, and not with what the other buckets hold. First bit and
+ * bit count are those of hv_place on every file that hv_check accepts; of other files it does not see what is wrong in another
+ * bucket.
+ * out: HV_IN_BUCKET_LEN numbers. Refusals: 1 to 7; 8, no such column, its manager no IncrementalStMan, or a String column; 10; 11;
+ * 9, which comes behind the first rows and before the bucket.
+ */
+enum hv_number hv_place_in_bucket(const uint8_t *table, size_t table_len, const uint8_t *file, size_t file_len, uint64_t row,
+                                  uint64_t position, uint8_t *room, size_t room_len, uint64_t *out, size_t out_len);
 
 /*
  * View: the bytes of the file that hold the cell of a row and a column position, after a check of the file.

@@ -16,6 +16,7 @@ struct question {
     const char *directory;
     struct bytes column;
     uint64_t row;
+    bool is_whole; /* all buckets are to be checked */
 };
 
 /* The answer, found out whole before any of it is printed. */
@@ -26,6 +27,8 @@ struct answer {
     uint64_t rows;
     bool has_column; /* and these are */
     uint64_t column[HV_COLUMN_LEN];
+    bool has_file; /* the manager's file was asked, and the next is right */
+    bool is_one_bucket; /* of its buckets only the row's own is checked, else all that there is */
     uint64_t plan[HV_PLAN_LEN]; /* this and what follows are right where the verdict is accepted */
     uint64_t place[HV_PLACE_LEN];
     bool is_bits; /* the cell is no run of whole bytes */
@@ -67,6 +70,29 @@ static void copy_cell(struct search *search, uint64_t start, uint64_t len)
     memcpy(search->answer->cell, search->file.at + start, len);
 }
 
+/* Place in one bucket; the plan's numbers are the column's, and the bucket size. Gives the byte that a refusal blames. */
+static uint64_t ask_bucket(struct search *search)
+{
+    struct answer *answer = search->answer;
+    struct bytes table = search->table, file = search->file;
+    uint64_t place[HV_IN_BUCKET_LEN];
+
+    search->number = hv_place_in_bucket(table.at, table.len, file.at, file.len, search->row, search->position, NULL, 0, place,
+                                        HV_IN_BUCKET_LEN);
+    if (search->number != HV_ACCEPTED)
+        return place[HV_IN_BUCKET_BYTE];
+    answer->plan[HV_PLAN_POSITION] = search->position;
+    answer->plan[HV_PLAN_SEQUENCE] = answer->column[HV_COLUMN_SEQUENCE];
+    answer->plan[HV_PLAN_DATA_TYPE] = answer->column[HV_COLUMN_DATA_TYPE];
+    answer->plan[HV_PLAN_ELEMENTS] = answer->column[HV_COLUMN_ELEMENTS];
+    answer->plan[HV_PLAN_BITS] = place[HV_IN_BUCKET_BIT_COUNT];
+    answer->plan[HV_PLAN_BUCKET_SIZE] = place[HV_IN_BUCKET_BUCKET_SIZE];
+    answer->place[HV_PLACE_FIRST_BIT] = place[HV_IN_BUCKET_FIRST_BIT];
+    answer->place[HV_PLACE_BIT_COUNT] = place[HV_IN_BUCKET_BIT_COUNT];
+    copy_cell(search, place[HV_IN_BUCKET_FIRST_BIT] / 8, place[HV_IN_BUCKET_BIT_COUNT] / 8);
+    return 0;
+}
+
 /* Plan, place and view, each after a check of the file. The first that is refused decides; gives the byte that it blames. */
 static uint64_t ask_cell(struct search *search)
 {
@@ -97,7 +123,7 @@ static uint64_t ask_cell(struct search *search)
 static void search_file(void *what)
 {
     struct search *search = what;
-    uint64_t byte = ask_cell(search);
+    uint64_t byte = search->answer->is_one_bucket ? ask_bucket(search) : ask_cell(search);
 
     if (blames_byte(search->number))
         search->dump = dump_of_file(search->table, search->file, search->answer->column[HV_COLUMN_SEQUENCE], byte);
@@ -116,6 +142,7 @@ static void fail(struct answer *answer, char *why, const char *file)
     decide(answer, verdict_not_read(why), file);
     answer->has_table = false;
     answer->has_column = false;
+    answer->has_file = false;
 }
 
 static void ask_file(struct answer *answer, const struct question *question, const struct file *table, uint64_t position)
@@ -125,6 +152,7 @@ static void ask_file(struct answer *answer, const struct question *question, con
     struct search search = {
         .table = table->bytes, .file = file.bytes, .row = question->row, .position = position, .answer = answer};
 
+    answer->has_file = true;
     if (why == NULL)
         why = file_use(&file, search_file, &search);
     if (why == NULL)
@@ -139,9 +167,20 @@ static void ask_file(struct answer *answer, const struct question *question, con
     file_close(&file);
 }
 
+/* A column without places, or without those of the kind, is refused before the file is looked at, so these need none. */
+static bool has_places(struct bytes table, uint64_t position)
+{
+    return hv_plan(table.at, table.len, nothing.at, nothing.len, position, NULL, 0, NULL, 0) != HV_REFUSED_MISSING;
+}
+
+static bool is_incremental(struct bytes table, uint64_t position)
+{
+    return hv_place_in_bucket(table.at, table.len, nothing.at, nothing.len, 0, position, NULL, 0, NULL, 0) != HV_REFUSED_MISSING;
+}
+
 static void ask_table(struct answer *answer, const struct question *question, const struct file *table)
 {
-    uint64_t description[HV_DESCRIPTION_LEN], position[HV_POSITION_LEN], plan[HV_PLAN_LEN];
+    uint64_t description[HV_DESCRIPTION_LEN], position[HV_POSITION_LEN];
     struct bytes bytes = table->bytes, column = question->column;
     uint64_t number = hv_description(bytes.at, bytes.len, description, HV_DESCRIPTION_LEN);
     struct dump dump = dump_of_table(bytes, description[HV_DESCRIPTION_BYTE]);
@@ -154,14 +193,14 @@ static void ask_table(struct answer *answer, const struct question *question, co
         number = hv_column(bytes.at, bytes.len, position[HV_POSITION], answer->column, HV_COLUMN_LEN);
         answer->has_column = number == HV_ACCEPTED;
     }
-    /* A column without places is refused before the file is looked at, so it needs none. */
-    if (number == HV_ACCEPTED && hv_plan(bytes.at, bytes.len, nothing.at, nothing.len, position[HV_POSITION], room, sizeof room,
-                                         plan, HV_PLAN_LEN) == HV_REFUSED_MISSING)
+    if (number == HV_ACCEPTED && !has_places(bytes, position[HV_POSITION]))
         number = HV_REFUSED_MISSING;
-    if (number == HV_ACCEPTED)
+    if (number == HV_ACCEPTED) {
+        answer->is_one_bucket = !question->is_whole && is_incremental(bytes, position[HV_POSITION]);
         ask_file(answer, question, table, position[HV_POSITION]);
-    else
+    } else {
         decide(answer, verdict_of(number, &dump), table->shown);
+    }
 }
 
 static void ask(struct answer *answer, const struct question *question)
@@ -253,6 +292,8 @@ static void print_cell(const struct answer *answer, const struct question *quest
     char *column = escaped(question->column);
 
     printf("column \"%s\" row %" PRIu64 " in %s\n", column, question->row, answer->file);
+    if (answer->is_one_bucket)
+        printf("checked: the row's bucket, and what leads to it; --whole checks all buckets\n");
     print_plan(answer->plan);
     printf("looks %" PRIu64 ", entry count %" PRIu64 "\n", answer->place[HV_PLACE_LOOKS], answer->place[HV_PLACE_ENTRIES]);
     printf("bucket %" PRIu64 ", bytes %" PRIu64 " to %" PRIu64 "\n", bucket_of(answer), bucket_start(answer),
@@ -325,6 +366,7 @@ static void json_answer(const struct answer *answer, const struct question *ques
     json_number("row", question->row);
     json_text("file", answer->file);
     json_verdict(&answer->verdict);
+    json_text("checked", !answer->has_file ? NULL : answer->is_one_bucket ? "bucket" : "file");
     json_known("rows", answer->has_table, answer->rows);
     json_known("manager", answer->has_column, answer->column[HV_COLUMN_SEQUENCE]);
     json_known("data_type", answer->has_column, answer->column[HV_COLUMN_DATA_TYPE]);
@@ -379,7 +421,7 @@ static int misused_row(const char *given)
 
 static int cell(const struct arguments *given)
 {
-    struct question question = {given->at[0], nothing, 0};
+    struct question question = {.directory = given->at[0], .column = nothing, .is_whole = given->whole};
     uint8_t *column;
     int status;
 
@@ -398,7 +440,7 @@ static int cell(const struct arguments *given)
 
 const struct command cell_command = {
     .name = "cell",
-    .usage = "[--json] DIR COLUMN ROW",
+    .usage = "[--json] [--whole] DIR COLUMN ROW",
     .summary = "where a cell is kept, and its bytes",
     .help = "Finds the cell of a column and a row, from 0, in the Casacore table in a directory. Prints the\n"
             "column's plan; how many last-row entries of the index the search for the row looked at, and how many\n"
@@ -407,12 +449,17 @@ const struct command cell_command = {
             "as the file has them, that is in the table's byte order.\n"
             "Of a Bool column in StandardStMan, whose cells need not be whole bytes, it prints the bits, first to\n"
             "last; bits count from a byte's lowest.\n"
+            "Of a column in IncrementalStMan it checks what leads to the row's bucket (table.dat, and the file's\n"
+            "header, index and free list) and of the buckets that one alone; a line says so. A fault in another\n"
+            "bucket is not seen then. With --whole it checks all buckets, as 'hv check' does. In StandardStMan it\n"
+            "always checks the whole file.\n"
             "COLUMN is the name as 'hv list' prints it between the quotes: \\xNN stands for a byte, \\x5c for a\n"
             "backslash.\n"
             "A refusal prints its number, then the file that it is about and why.\n",
     .least = 3,
     .most = 3,
     .json = true,
+    .whole = true,
     .directory = true,
     .run = cell,
 };

@@ -11,6 +11,7 @@ enum { ANY_NUMBER = -1 };
 
 struct arguments {
     bool json;
+    bool whole;
     int count;
     char **at;
 };
@@ -23,6 +24,7 @@ struct command {
     int least; /* arguments */
     int most; /* or ANY_NUMBER */
     bool json; /* whether it takes --json */
+    bool whole; /* whether it takes --whole */
     bool directory; /* whether its first argument is a table's directory, and all that there may be beyond `least` */
     int (*run)(const struct arguments *given); /* gives the exit status */
 };

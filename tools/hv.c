@@ -131,7 +131,7 @@ static int run(const struct command *command, const struct arguments *given)
 /* Takes the options out of the arguments, which stay in their order. */
 static int run_with_options(const struct command *command, int argc, char **argv)
 {
-    struct arguments given = {false, 0, argv};
+    struct arguments given = {.at = argv};
     bool has_options = true;
     int i;
 
@@ -144,6 +144,8 @@ static int run_with_options(const struct command *command, int argc, char **argv
             has_options = false;
         } else if (has_options && command->json && strcmp(argv[i], "--json") == 0) {
             given.json = true;
+        } else if (has_options && command->whole && strcmp(argv[i], "--whole") == 0) {
+            given.whole = true;
         } else if (has_options && is_option(argv[i])) {
             char *shown = escaped_text(argv[i]);
             int status = misused(command, "unknown option '%s'", shown);

@@ -1,8 +1,8 @@
 /*
  * Asks every question of include/helvidrane.h: of files on the samples `small`, `little`, `arrays` and `survey`, accepted, refused
- * with each number and the byte, with row numbers of 4 and of 8 bytes, with `out` shorter and longer than the answer, with plans
- * that are too short, and with null pointers to runs of 0 elements; and of type numbers. The answers are those of RULES.md and of
- * the independent model. It is C and C++.
+ * with each number and the byte, with row numbers of 4 and of 8 bytes, with faults in the row's bucket and in others, with `out`
+ * shorter and longer than the answer, with plans that are too short, and with null pointers to runs of 0 elements; and of type
+ * numbers. The answers are those of RULES.md and of the independent model. It is C and C++.
  *
  * questions SAMPLES: exits with 1 at the first difference.
  */
@@ -16,13 +16,15 @@
 #define ACCEPTED(question, values) accepted(question, values, sizeof values / sizeof *values, __LINE__)
 #define REFUSED(question, number) refused(question, number, 0, __LINE__)
 
-enum question { DESCRIPTION, COLUMN, MANAGER, BY_NAME, CHECK, PLAN, PLACE, PLACE_PLANNED, VIEW, VIEW_PLANNED };
+enum question { DESCRIPTION, COLUMN, MANAGER, BY_NAME, CHECK, PLAN, PLACE, PLACE_PLANNED, VIEW, VIEW_PLANNED, IN_BUCKET };
 
 static const size_t answer_lens[] = {HV_DESCRIPTION_LEN, HV_COLUMN_LEN, HV_MANAGER_LEN, HV_POSITION_LEN, HV_CHECK_LEN,
-                                     HV_PLAN_LEN,        HV_PLACE_LEN,  HV_PLACE_LEN,   HV_VIEW_LEN,     HV_VIEW_LEN};
+                                     HV_PLAN_LEN,        HV_PLACE_LEN,  HV_PLACE_LEN,   HV_VIEW_LEN,     HV_VIEW_LEN,
+                                     HV_IN_BUCKET_LEN};
 /* The numbers of the bytes. */
 static const size_t bytes_at[] = {HV_DESCRIPTION_BYTE, HV_COLUMN_BYTE, HV_MANAGER_BYTE, HV_POSITION_BYTE, HV_CHECK_BYTE,
-                                  HV_PLAN_BYTE,        HV_PLACE_BYTE,  HV_PLACE_BYTE,   HV_VIEW_BYTE,     HV_VIEW_BYTE};
+                                  HV_PLAN_BYTE,        HV_PLACE_BYTE,  HV_PLACE_BYTE,   HV_VIEW_BYTE,     HV_VIEW_BYTE,
+                                  HV_IN_BUCKET_BYTE};
 
 enum { BYTES_MOST = 1 << 20, OUT_MOST = 16, ROOM_MOST = HV_ROOM_MOST + 16, PLAN_MOST = HV_PLAN_LEN + 2 };
 
@@ -114,6 +116,8 @@ static enum hv_number ask(enum question question, size_t out_len)
         return hv_view(t, table.len, f, file.len, row, number, r, room_len, o, out_len);
     case VIEW_PLANNED:
         return hv_view_planned(t, table.len, f, file.len, row, p, plan_len, r, room_len, o, out_len);
+    case IN_BUCKET:
+        return hv_place_in_bucket(t, table.len, f, file.len, row, number, r, room_len, o, out_len);
     }
     abort();
 }
@@ -314,6 +318,7 @@ static void ask_of_cells(void)
         set_plan(plans[number]);
         ACCEPTED(PLACE, whole);
         ACCEPTED(PLACE_PLANNED, whole);
+        REFUSED(IN_BUCKET, HV_REFUSED_MISSING); /* it is StandardStMan's */
         long_plans(PLACE_PLANNED, whole, __LINE__);
         if (number == 1) {
             REFUSED(VIEW, HV_REFUSED_BOOL);
@@ -333,6 +338,7 @@ static void ask_of_cells(void)
         set_plan(plans[i]);
         for (k = 0; k < 3; k++) {
             row = absent[k];
+            REFUSED(IN_BUCKET, HV_REFUSED_MISSING);
             REFUSED(PLACE, HV_REFUSED_ROW);
             REFUSED(PLACE_PLANNED, HV_REFUSED_ROW);
             REFUSED(VIEW, HV_REFUSED_ROW);
@@ -355,6 +361,7 @@ static void ask_of_cells(void)
     number = 0;
     set_plan(plans[0]);
     for (room_len = 0; room_len < text.len; room_len += 19) {
+        REFUSED(IN_BUCKET, HV_REFUSED_MISSING);
         REFUSED(CHECK, HV_REFUSED_ROOM);
         REFUSED(PLAN, HV_REFUSED_ROOM);
         REFUSED(PLACE, HV_REFUSED_ROOM);
@@ -395,7 +402,7 @@ static void set_scan(void)
     set_plan(scan);
 }
 
-/* The questions from `first` on are refused, each with the same number and byte. */
+/* The questions from `first` on are refused, each with the same number and byte; a place in one bucket, where it is the table's. */
 static void refused_from(enum question first, enum hv_number refusal, uint64_t byte, int line)
 {
     int question;
@@ -403,6 +410,8 @@ static void refused_from(enum question first, enum hv_number refusal, uint64_t b
     set_scan();
     for (question = first; question <= VIEW_PLANNED; question++)
         refused((enum question)question, refusal, byte, line);
+    if (first == DESCRIPTION)
+        refused(IN_BUCKET, refusal, byte, line);
     short_plans(PLACE_PLANNED, line);
     short_plans(VIEW_PLANNED, line);
 }
@@ -415,6 +424,8 @@ static void blamed_from(enum question first, enum hv_number refusal, uint64_t by
     set_scan();
     for (question = first; question <= VIEW_PLANNED; question++)
         blamed((enum question)question, refusal, byte, line);
+    if (first == DESCRIPTION)
+        blamed(IN_BUCKET, refusal, byte, line);
 }
 
 /* A byte of a file is another one; the file is refused at the byte where the failing field begins. */
@@ -945,13 +956,13 @@ static void ask_of_mixed_sets(const char *samples)
     }
 }
 
-/* Number and byte of every question over table.f1 of `arrays`, by SCAN_NUMBER, which its manager keeps. */
+/* Number and byte of every question over table.f1 of `arrays`, by SCAN_NUMBER, which its manager keeps. Row 7 is in bucket 2. */
 static void blamed_incremental(enum hv_number refusal, uint64_t byte, int line)
 {
     int question;
 
     row = 7;
-    for (question = CHECK; question <= VIEW_PLANNED; question++) {
+    for (question = CHECK; question <= IN_BUCKET; question++) {
         number = question == CHECK ? 1 : 4;
         blamed((enum question)question, refusal, byte, line);
     }
@@ -1050,6 +1061,7 @@ static void ask_of_incremental(const char *samples)
     const uint64_t scan_number[] = {4, 1, HV_TYPE_INT, 1, 32, 0, 0, 0, 128, 0};
     const uint64_t place[] = {6368, 32, 0, 0, 0};
     const uint64_t view[] = {796, 4, 0};
+    const uint64_t in_bucket[] = {6368, 32, 128, 0};
     const uint64_t bucket_size[] = {128, 0};
     size_t i, before;
 
@@ -1070,6 +1082,7 @@ static void ask_of_incremental(const char *samples)
         number = 6; /* its column FLAG */
         REFUSED(PLAN, HV_REFUSED_MISSING);
         REFUSED(VIEW, HV_REFUSED_MISSING);
+        REFUSED(IN_BUCKET, HV_REFUSED_MISSING);
         number = 4;
         row = 7;
         set_plan(scan_number);
@@ -1078,8 +1091,10 @@ static void ask_of_incremental(const char *samples)
         ACCEPTED(PLACE_PLANNED, place);
         ACCEPTED(VIEW, view);
         ACCEPTED(VIEW_PLANNED, view);
+        ACCEPTED(IN_BUCKET, in_bucket);
         row = 20;
         REFUSED(PLACE, HV_REFUSED_ROW);
+        REFUSED(IN_BUCKET, HV_REFUSED_ROW);
         plan[HV_PLAN_BUCKET_SIZE] = 129;
         REFUSED(VIEW_PLANNED, HV_REFUSED_PLAN);
     }
@@ -1240,6 +1255,207 @@ static void ask_of_wide_incremental(const char *samples)
     blamed_incremental(HV_REFUSED_LENGTH, 0x39c, __LINE__);
 }
 
+/* The three columns of `arrays` in table.f1: TIME, SCAN_NUMBER and INTERVAL. */
+static const uint64_t kept[] = {0, 4, 5};
+static const uint64_t kept_bits[] = {64, 32, 64};
+
+/* The place in one bucket of every row and column: refused for the rows from `from` on that are below `to`, and of no other. */
+static void in_one_bucket(uint64_t (*places)[3], uint64_t from, uint64_t to, enum hv_number refusal, uint64_t byte, int line)
+{
+    size_t k;
+
+    for (row = 0; row < 20; row++)
+        for (k = 0; k < 3; k++) {
+            const uint64_t place[] = {places[row][k], kept_bits[k], 128, 0};
+            number = kept[k];
+            if (row >= from && row < to) {
+                blamed(IN_BUCKET, refusal, byte, line);
+            } else {
+                HOLD(ask(IN_BUCKET, HV_IN_BUCKET_LEN) == HV_ACCEPTED, line);
+                HOLD(memcmp(out, place, sizeof place) == 0, line);
+            }
+            HOLD(room_is(0, room_len, 0), line);
+        }
+}
+
+/* Rows that are not there are refused, by every column. */
+static void of_no_row(enum hv_number refusal, uint64_t byte, int line)
+{
+    static const uint64_t absent[] = {20, 21, (UINT64_C(1) << 32) + 7, UINT64_MAX};
+    size_t i, k;
+
+    for (i = 0; i < sizeof absent / sizeof *absent; i++)
+        for (k = 0; k < 3; k++) {
+            row = absent[i];
+            number = kept[k];
+            blamed(IN_BUCKET, refusal, byte, line);
+        }
+}
+
+#define IN_ROWS(faults, from, to) in_rows(places, faults, sizeof faults / sizeof *faults, from, to, __LINE__)
+
+/* Each of the faults is in the bucket of the rows from `from` on that are below `to`. The check sees it for all. */
+static void in_rows(uint64_t (*places)[3], const struct fault *faults, size_t count, uint64_t from, uint64_t to, int line)
+{
+    size_t i;
+
+    for (i = 0; i < count; i++) {
+        uint8_t good = file.at[faults[i].at];
+        HOLD(good != faults[i].byte, line);
+        file.at[faults[i].at] = faults[i].byte;
+        number = 1;
+        blamed(CHECK, faults[i].refusal, faults[i].field, line);
+        in_one_bucket(places, from, to, faults[i].refusal, faults[i].field, line);
+        of_no_row(HV_REFUSED_ROW, 0, line);
+        row = from;
+        number = 4;
+        refused(IN_BUCKET, faults[i].refusal, faults[i].field, line);
+        file.at[faults[i].at] = good;
+    }
+}
+
+/* Names the first two managers of `arrays` with each other's names, which stand at 3776 and 3797 behind their lengths. */
+static void exchange_managers(void)
+{
+    memmove(table.at + 3792, table.at + 3789, 4);
+    memcpy(table.at + 3772, "\0\0\0\x10IncrementalStMan", 20);
+    memcpy(table.at + 3796, "\0\0\0\x0dStandardStMan", 17);
+}
+
+/* 8 stands before the file: no such column, a column of another manager, and of type String. */
+static void ask_of_no_bucket(const char *samples)
+{
+    const size_t lens[] = {file.len, 0};
+    size_t i;
+
+    row = 7;
+    for (i = 0; i < 2; i++) {
+        file.len = lens[i];
+        for (number = 0; number < 15; number++)
+            if (number != kept[0] && number != kept[1] && number != kept[2])
+                REFUSED(IN_BUCKET, HV_REFUSED_MISSING);
+        REFUSED(IN_BUCKET, HV_REFUSED_MISSING);
+        number = (UINT64_C(1) << 32) + 4;
+        REFUSED(IN_BUCKET, HV_REFUSED_MISSING);
+        number = UINT64_MAX;
+        REFUSED(IN_BUCKET, HV_REFUSED_MISSING);
+    }
+    number = 4;
+    refused(IN_BUCKET, HV_REFUSED_END, 0, __LINE__);
+
+    /* Now TIME, SCAN_NUMBER and INTERVAL are StandardStMan's, and its columns are IncrementalStMan's, three of them Strings. */
+    exchange_managers();
+    for (number = 0; number < 15; number++) {
+        uint64_t position = number, manager, type;
+        HOLD(ask(COLUMN, HV_COLUMN_LEN) == HV_ACCEPTED, __LINE__);
+        manager = out[HV_COLUMN_SEQUENCE];
+        type = out[HV_COLUMN_DATA_TYPE];
+        HOLD((type == HV_TYPE_STRING) == (10 <= position && position <= 12), __LINE__);
+        if (manager == 0 && type != HV_TYPE_STRING)
+            refused(IN_BUCKET, HV_REFUSED_END, 0, __LINE__);
+        else
+            REFUSED(IN_BUCKET, HV_REFUSED_MISSING);
+    }
+    read_file(&table, samples, "arrays", "table.dat");
+    file.len = lens[0];
+}
+
+/*
+ * Place in one bucket, in table.f1 of `arrays`. Rows 0 to 11 are in bucket 2, at 0x300, whose index begins at 0x328, and rows 12 to
+ * 19 in bucket 0, at 0x200, whose index begins at 0x220; bucket 1, at 0x280, is free. A bucket is judged whole, for all columns,
+ * and only where the row is in it.
+ */
+static void ask_of_one_bucket(const char *samples)
+{
+    static const struct fault in_bucket_2[] = {
+        {0x300, 3, HV_REFUSED_MAP, 0},       /* where its index begins */
+        {0x300, 129, HV_REFUSED_MAP, 0},
+        {0x300, 126, HV_REFUSED_END, 0x37e},
+        {0x300, 128, HV_REFUSED_END, 0x380},
+        {0x303, 1, HV_REFUSED_MAP, 0},       /* starts of 8 bytes */
+        {0x328, 0, HV_REFUSED_MAP, 0},       /* TIME: the number of values, */
+        {0x32c, 1, HV_REFUSED_MAP, 0},       /* the first start, */
+        {0x334, 12, HV_REFUSED_MAP, 0},      /* the last, */
+        {0x338, 29, HV_REFUSED_MAP, 0},      /* an offset */
+        {0x34c, 33, HV_REFUSED_MAP, 0},      /* SCAN_NUMBER: its offset */
+        {0x350, 9, HV_REFUSED_MAP, 0},       /* INTERVAL: the number of values, */
+        {0x358, 29, HV_REFUSED_MAP, 0},      /* its offset */
+    };
+    static const struct fault in_bucket_0[] = {
+        {0x200, 3, HV_REFUSED_MAP, 0},
+        {0x200, 126, HV_REFUSED_END, 0x27e},
+        {0x200, 128, HV_REFUSED_END, 0x280},
+        {0x203, 1, HV_REFUSED_MAP, 0},
+        {0x220, 0, HV_REFUSED_MAP, 0},
+        {0x228, 8, HV_REFUSED_MAP, 0},
+        {0x23c, 25, HV_REFUSED_MAP, 0},
+        {0x248, 21, HV_REFUSED_MAP, 0},
+    };
+    /* In the header, the free chain and the index: they are judged for every row, and before the row. */
+    static const struct fault before[] = {
+        {0x20, 1, HV_REFUSED_FACTS, 0x20},     /* the endianness */
+        {0x25, 4, HV_REFUSED_END, 986},        /* the number of buckets */
+        {0x31, 0, HV_REFUSED_CHAIN, 0},        /* the number of free buckets */
+        {0x35, 2, HV_REFUSED_CHAIN, 0},        /* the first of them */
+        {0x280, 0, HV_REFUSED_CHAIN, 0},       /* the link in it */
+        {0x394, 3, HV_REFUSED_VERSION, 0x394}, /* ISMIndex's version */
+        {0x3ad, 4, HV_REFUSED_FACTS, 0x3ad},   /* the count of first rows */
+        {0x3b1, 1, HV_REFUSED_MAP, 0},         /* the first rows */
+        {0x3b5, 20, HV_REFUSED_MAP, 0},
+        {0x3b9, 21, HV_REFUSED_MAP, 0},
+        {0x3d2, 3, HV_REFUSED_MAP, 0},         /* the bucket numbers: there is no bucket 3, */
+        {0x3d6, 1, HV_REFUSED_MAP, 0},         /* bucket 1 is free, */
+        {0x3d6, 2, HV_REFUSED_MAP, 0},         /* bucket 2 is there twice */
+    };
+    static const size_t rooms[] = {0, 1, 40, HV_ROOM_MOST};
+    const uint64_t last[] = {4192, 64, 128, 0};
+    uint64_t places[20][3];
+    size_t i;
+
+    read_file(&table, samples, "arrays", "table.dat");
+    read_file(&file, samples, "arrays", "table.f1");
+    text.len = 0;
+    room_len = 0;
+    take_places(places);
+    for (i = 0; i < sizeof rooms / sizeof *rooms; i++) {
+        room_len = rooms[i];
+        in_one_bucket(places, 20, 20, HV_ACCEPTED, 0, __LINE__);
+        of_no_row(HV_REFUSED_ROW, 0, __LINE__);
+        row = 19;
+        number = 0;
+        ACCEPTED(IN_BUCKET, last);
+        row = 20;
+        REFUSED(IN_BUCKET, HV_REFUSED_ROW);
+    }
+    room_len = 40;
+    ask_of_no_bucket(samples);
+
+    IN_ROWS(in_bucket_2, 0, 12);
+    IN_ROWS(in_bucket_0, 12, 20);
+    /* Both buckets are at fault: a row has the number of its own, and one that is not there comes before them. */
+    file.at[0x300] = 128;
+    file.at[0x200] = 3;
+    number = 4;
+    row = 11;
+    refused(IN_BUCKET, HV_REFUSED_END, 0x380, __LINE__);
+    row = 12;
+    REFUSED(IN_BUCKET, HV_REFUSED_MAP);
+    row = 20;
+    REFUSED(IN_BUCKET, HV_REFUSED_ROW);
+    read_file(&file, samples, "arrays", "table.f1");
+    for (i = 0; i < sizeof before / sizeof *before; i++) {
+        uint8_t good = file.at[before[i].at];
+        HOLD(good != before[i].byte, __LINE__);
+        file.at[before[i].at] = before[i].byte;
+        in_one_bucket(places, 0, 20, before[i].refusal, before[i].field, __LINE__);
+        of_no_row(before[i].refusal, before[i].field, __LINE__);
+        file.at[before[i].at] = good;
+    }
+    /* What stands in no bucket of the index and is no link is not judged. */
+    memset(file.at + 0x284, 0xff, 0x7c);
+    in_one_bucket(places, 20, 20, HV_ACCEPTED, 0, __LINE__);
+}
+
 /* The next questions are about a column of `survey`; gives its bits. */
 static uint64_t set_column(uint64_t position)
 {
@@ -1319,6 +1535,7 @@ static void ask_of_survey(const char *samples)
         {1059 + 272, 1, HV_REFUSED_MAP, 0},  /* starts of 8 bytes in bucket 3 */
     };
     const uint64_t description[] = {SURVEY_ROWS, 0, 4, 1, 0};
+    const uint64_t last[] = {8 * 1344, 32, 272, 0};
     const uint64_t bucket_size[] = {272, 0};
     size_t i;
     uint64_t position;
@@ -1335,14 +1552,17 @@ static void ask_of_survey(const char *samples)
         for (i = 0; i < sizeof cells / sizeof *cells; i++) {
             const uint64_t place[] = {8 * cells[i].bytes[position], bits, 0, 0, 0};
             const uint64_t view[] = {cells[i].bytes[position], bits / 8, 0};
+            const uint64_t in_bucket[] = {8 * cells[i].bytes[position], bits, 272, 0};
             row = cells[i].row;
             ACCEPTED(PLACE, place);
             ACCEPTED(PLACE_PLANNED, place);
             ACCEPTED(VIEW, view);
             ACCEPTED(VIEW_PLANNED, view);
+            ACCEPTED(IN_BUCKET, in_bucket);
         }
         for (i = 0; i < sizeof absent / sizeof *absent; i++) {
             row = absent[i];
+            REFUSED(IN_BUCKET, HV_REFUSED_ROW);
             REFUSED(PLACE, HV_REFUSED_ROW);
             REFUSED(PLACE_PLANNED, HV_REFUSED_ROW);
             REFUSED(VIEW, HV_REFUSED_ROW);
@@ -1361,6 +1581,17 @@ static void ask_of_survey(const char *samples)
     REFUSED_EACH(&table, DESCRIPTION, in_table);
     REFUSED_EACH(&table, CHECK, of_rows);
     REFUSED_EACH(&file, CHECK, in_file);
+
+    /* A negative start in bucket 2: rows of bucket 3 have their place, and no other row. */
+    file.at[1149] = 0x80;
+    number = 1;
+    row = UINT64_C(4500000000) - 1;
+    REFUSED(IN_BUCKET, HV_REFUSED_MAP);
+    row = SURVEY_ROWS;
+    REFUSED(IN_BUCKET, HV_REFUSED_ROW);
+    row = SURVEY_ROWS - 1;
+    REFUSED(PLACE, HV_REFUSED_MAP);
+    ACCEPTED(IN_BUCKET, last);
 }
 
 /* The bits of elements: each type's, and none of a String and of numbers that are no type's or only end as one does. */
@@ -1451,6 +1682,7 @@ int main(int argc, char **argv)
         ask_of_incremental(argv[1]);
         ask_of_incremental_info(argv[1]);
         ask_of_wide_incremental(argv[1]);
+        ask_of_one_bucket(argv[1]);
         ask_of_survey(argv[1]);
     }
     return 0;

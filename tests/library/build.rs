@@ -3,7 +3,7 @@
 use std::path::Path;
 use std::process::Command;
 
-const FUNCTIONS: [&str; 11] = [
+const FUNCTIONS: [&str; 12] = [
     "hv_description",
     "hv_column",
     "hv_manager",
@@ -12,6 +12,7 @@ const FUNCTIONS: [&str; 11] = [
     "hv_plan",
     "hv_place",
     "hv_place_planned",
+    "hv_place_in_bucket",
     "hv_view",
     "hv_view_planned",
     "hv_element_bits",

@@ -207,7 +207,7 @@ enum hv_number SHIM(hv_plan)(const uint8_t *table, size_t table_len, const uint8
 
 typedef enum hv_number by_position(const uint8_t *, size_t, const uint8_t *, size_t, uint64_t, uint64_t, uint8_t *, size_t,
                                    uint64_t *, size_t);
-by_position REAL(hv_place), SHIM(hv_place), REAL(hv_view), SHIM(hv_view);
+by_position REAL(hv_place), SHIM(hv_place), REAL(hv_place_in_bucket), SHIM(hv_place_in_bucket), REAL(hv_view), SHIM(hv_view);
 
 static enum hv_number positioned(struct lent *lent, by_position *real, const uint8_t *table, size_t table_len,
                                  const uint8_t *file, size_t file_len, uint64_t row, uint64_t position)
@@ -224,6 +224,21 @@ enum hv_number SHIM(hv_place)(const uint8_t *table, size_t table_len, const uint
     struct lent lent = {"hv_place", HV_PLACE_LEN, room, room_len, out, out_len, {0}};
 
     return positioned(&lent, REAL(hv_place), table, table_len, file, file_len, row, position);
+}
+
+enum hv_number SHIM(hv_place_in_bucket)(const uint8_t *table, size_t table_len, const uint8_t *file, size_t file_len,
+                                        uint64_t row, uint64_t position, uint8_t *room, size_t room_len, uint64_t *out,
+                                        size_t out_len)
+{
+    struct lent lent = {"hv_place_in_bucket", HV_IN_BUCKET_LEN, room, room_len, out, out_len, {0}};
+    enum hv_number number = positioned(&lent, REAL(hv_place_in_bucket), table, table_len, file, file_len, row, position);
+
+    /* All buckets are checked; or all of them are before the row is. */
+    if ((is("whole", lent.function) && number == HV_ACCEPTED) || (is("row-last", lent.function) && number == HV_REFUSED_ROW)) {
+        enum hv_number whole = REAL(hv_place)(table, table_len, file, file_len, row, position, NULL, 0, NULL, 0);
+        return whole != HV_ACCEPTED ? whole : number;
+    }
+    return number;
 }
 
 enum hv_number SHIM(hv_view)(const uint8_t *table, size_t table_len, const uint8_t *file, size_t file_len, uint64_t row,

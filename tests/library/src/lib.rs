@@ -64,6 +64,18 @@ extern "C" {
         out: *mut u64,
         out_len: usize,
     ) -> u32;
+    fn hv_place_in_bucket(
+        table: *const u8,
+        table_len: usize,
+        file: *const u8,
+        file_len: usize,
+        row: u64,
+        position: u64,
+        room: *mut u8,
+        room_len: usize,
+        out: *mut u64,
+        out_len: usize,
+    ) -> u32;
     fn hv_view(
         table: *const u8,
         table_len: usize,
@@ -109,6 +121,8 @@ pub const CHECK: usize = 2;
 pub const PLAN: usize = 10;
 /// First bit, bit count, looks, entries, byte.
 pub const PLACE: usize = 5;
+/// First bit, bit count, bucket size, byte.
+pub const IN_BUCKET: usize = 4;
 /// Start and length in bytes, byte.
 pub const VIEW: usize = 3;
 
@@ -142,11 +156,14 @@ pub enum Question<'a> {
     Plan { position: u64 },
     Place { row: u64, position: u64 },
     PlacePlanned { row: u64, plan: &'a [u64] },
+    PlaceInBucket { row: u64, position: u64 },
     View { row: u64, position: u64 },
     ViewPlanned { row: u64, plan: &'a [u64] },
 }
 
-use Question::{Check, Column, ColumnByName, Description, Manager, Place, PlacePlanned, Plan, View, ViewPlanned};
+use Question::{
+    Check, Column, ColumnByName, Description, Manager, Place, PlaceInBucket, PlacePlanned, Plan, View, ViewPlanned,
+};
 
 impl Question<'_> {
     /// The function's name.
@@ -160,6 +177,7 @@ impl Question<'_> {
             Plan { .. } => "hv_plan",
             Place { .. } => "hv_place",
             PlacePlanned { .. } => "hv_place_planned",
+            PlaceInBucket { .. } => "hv_place_in_bucket",
             View { .. } => "hv_view",
             ViewPlanned { .. } => "hv_view_planned",
         }
@@ -175,6 +193,7 @@ impl Question<'_> {
             Check { .. } => CHECK,
             Plan { .. } => PLAN,
             Place { .. } | PlacePlanned { .. } => PLACE,
+            PlaceInBucket { .. } => IN_BUCKET,
             View { .. } | ViewPlanned { .. } => VIEW,
         }
     }
@@ -195,6 +214,9 @@ impl Question<'_> {
                 Place { row, position } => hv_place(t, t_len, f, f_len, row, position, r, r_len, o, o_len),
                 PlacePlanned { row, plan } => {
                     hv_place_planned(t, t_len, f, f_len, row, plan.as_ptr(), plan.len(), r, r_len, o, o_len)
+                }
+                PlaceInBucket { row, position } => {
+                    hv_place_in_bucket(t, t_len, f, f_len, row, position, r, r_len, o, o_len)
                 }
                 View { row, position } => hv_view(t, t_len, f, f_len, row, position, r, r_len, o, o_len),
                 ViewPlanned { row, plan } => {
@@ -247,6 +269,7 @@ pub fn plan(table: &[u8], file: &[u8], position: u64, room: &mut [u8]) -> Result
 }
 
 type Placed = Result<[u64; PLACE], Refusal>;
+type InBucket = Result<[u64; IN_BUCKET], Refusal>;
 type Viewed = Result<[u64; VIEW], Refusal>;
 
 /// A cell's first bit and its bit count, the looks of the search for it and the entries of its set.
@@ -257,6 +280,11 @@ pub fn place(table: &[u8], file: &[u8], row: u64, position: u64, room: &mut [u8]
 /// The same for the plan's column.
 pub fn place_planned(table: &[u8], file: &[u8], row: u64, plan: &[u64; PLAN_NUMBERS], room: &mut [u8]) -> Placed {
     PlacePlanned { row, plan }.answer(table, file, room)
+}
+
+/// A cell's first bit and its bit count in IncrementalStMan, and the file's bucket size; of the buckets the row's own is checked.
+pub fn place_in_bucket(table: &[u8], file: &[u8], row: u64, position: u64, room: &mut [u8]) -> InBucket {
+    PlaceInBucket { row, position }.answer(table, file, room)
 }
 
 /// Where the part of the file that holds a cell starts, and its length in bytes.
@@ -280,7 +308,7 @@ pub fn element_bits(number: u64) -> u64 {
 mod tests {
     use super::*;
 
-    const QUESTIONS: [Question<'static>; 10] = [
+    const QUESTIONS: [Question<'static>; 11] = [
         Description,
         Column { position: 0 },
         Manager { index: 0 },
@@ -289,6 +317,7 @@ mod tests {
         Plan { position: 0 },
         Place { row: 0, position: 0 },
         PlacePlanned { row: 0, plan: &[0; PLAN_NUMBERS] },
+        PlaceInBucket { row: 0, position: 0 },
         View { row: 0, position: 0 },
         ViewPlanned { row: 0, plan: &[0; PLAN_NUMBERS] },
     ];

@@ -144,6 +144,7 @@ impl Expected {
             PlacePlanned { row, plan } => {
                 Self::planned(plan, |plan| numbers::place_planned(table, file, row, plan, room))
             }
+            PlaceInBucket { row, position } => Self::new(numbers::place_in_bucket(table, file, row, position, room)),
             View { row, position } => Self::new(numbers::view(table, file, row, position, room)),
             ViewPlanned { row, plan } => {
                 Self::planned(plan, |plan| numbers::view_planned(table, file, row, plan, room))
@@ -167,6 +168,8 @@ pub struct Comparison {
     bytes: BTreeMap<(&'static str, u64), u64>,
     /// The largest first number that each function gave.
     largest: BTreeMap<&'static str, u64>,
+    /// How many places were given in one bucket of files that are refused.
+    accepted_in_part: u64,
 }
 
 impl Comparison {
@@ -247,6 +250,7 @@ impl Comparison {
         self.table(table)?;
         let described = model::describe(table).ok();
         let (columns, row_count) = described.as_ref().map_or((1, 1), |d| (d.columns.len() as u64, d.rows));
+        let mut accepted_in_part = 0;
         let mut ask = |room, question: Question<'_>| self.ask(table, file, room, question);
 
         let managers = described.iter().flat_map(|d| &d.managers);
@@ -279,8 +283,24 @@ impl Comparison {
             for row in rows.iter().copied().chain(absent(row_count, rows[0])) {
                 ask(room, Place { row, position })?;
                 ask(room, PlacePlanned { row, plan })?;
+                ask(room, PlaceInBucket { row, position })?;
                 ask(room, View { row, position })?;
                 ask(room, ViewPlanned { row, plan })?;
+            }
+        }
+
+        // Of a file that is refused, every column of IncrementalStMan: some of its buckets may be good. Other columns give 8, with
+        // no file too.
+        if planned.is_empty() {
+            let in_bucket = |row, position| model::place_in_bucket(table, file, row, position, &mut []);
+            let is_kept = |position: &u64| {
+                model::place_in_bucket(table, &[], 0, *position, &mut []).is_err_and(|refusal| refusal.number != 8)
+            };
+            for position in (0..columns).filter(is_kept) {
+                for row in rows.iter().copied().chain([row_count]) {
+                    ask(room, PlaceInBucket { row, position })?;
+                    accepted_in_part += u64::from(in_bucket(row, position).is_ok());
+                }
             }
         }
 
@@ -292,6 +312,7 @@ impl Comparison {
             plan[0] = position;
             ask(room, Place { row, position })?;
             ask(room, PlacePlanned { row, plan })?;
+            ask(room, PlaceInBucket { row, position })?;
             ask(room, View { row, position })?;
             ask(room, ViewPlanned { row, plan })?;
         }
@@ -299,6 +320,7 @@ impl Comparison {
             ask(room, Plan { position: fresh[0] })?;
             ask(room, Place { row, position: fresh[0] })?;
             ask(room, PlacePlanned { row, plan: &fresh })?;
+            ask(room, PlaceInBucket { row, position: fresh[0] })?;
             ask(room, View { row, position: fresh[0] })?;
             ask(room, ViewPlanned { row, plan: &fresh })?;
         }
@@ -318,6 +340,7 @@ impl Comparison {
                 ask(room, ViewPlanned { row, plan: &plan[..plan_len] })?;
             }
         }
+        self.accepted_in_part += accepted_in_part;
         Ok(())
     }
 
@@ -340,7 +363,8 @@ impl Comparison {
     }
 
     /// What must have been asked: each function accepted, and refused with each number that the header names for it, with
-    /// those from 1 to 7 at a byte above 0 too; of the bits of an element, every size.
+    /// those from 1 to 7 at a byte above 0 too; a place in one bucket of a file that is refused; of the bits of an element, every
+    /// size.
     fn missing(&self) -> Vec<String> {
         let of_file = [1, 2, 3, 4, 5, 6, 7, 8, 10, 11, 13];
         let (of_table, of_position) = (&of_file[..7], &of_file[..8]);
@@ -354,11 +378,15 @@ impl Comparison {
             ("hv_plan", with(&[])),
             ("hv_place", with(&[9])),
             ("hv_place_planned", with(&[9, 12, SHORT])),
+            ("hv_place_in_bucket", [of_position, &[9, 10, 11]].concat()),
             ("hv_view", with(&[9, 14])),
             ("hv_view_planned", with(&[9, 12, 14, SHORT])),
             ("hv_element_bits", vec![1, 8, 16, 32, 64, 128]),
         ];
         let mut missing = Vec::new();
+        if self.accepted_in_part == 0 {
+            missing.push("hv_place_in_bucket gave no place in a file that is refused".to_string());
+        }
         for (function, numbers) in needed {
             let given: Vec<u64> =
                 self.given.keys().filter(|(f, n)| *f == function && *n > 0).map(|(_, n)| *n).collect();
@@ -483,11 +511,12 @@ fn compare(comparison: &mut Comparison, seed: u64, count: u64) -> Result<(), Str
     // Above 4 GiB: few bytes of each file are not zero, and memory that is not touched costs nothing. One file at a time.
     let places = ["hv_place", "hv_place_planned"];
     let all = ["hv_place", "hv_place_planned", "hv_view", "hv_view_planned"];
+    let incremental = [&all[..], &["hv_place_in_bucket"]].concat();
     for endianness in [0, 1] {
         let above: [(&dyn Fn() -> Case, &[&str]); 3] = [
             (&|| Case::whole(&large_files::standard_above_4_gib(endianness)), &all),
             (&|| Case::whole(&large_files::bools_above_4_gib(endianness)), &places), // Bools have no views
-            (&|| Case::whole(&large_files::incremental_above_4_gib(endianness)), &all),
+            (&|| Case::whole(&large_files::incremental_above_4_gib(endianness)), &incremental),
         ];
         for (number, (make, functions)) in (0..).zip(above) {
             let compared = comparison.above_4_gib(&make(), &mut rng(number), functions);

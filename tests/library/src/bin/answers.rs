@@ -1,7 +1,7 @@
 //! Answers request lines with the proved library. The listing is what the proved program prints; HELVIDRANE_LISTING names it.
 
 use library::fields::{bytes, hex, number, signed};
-use library::{Refusal, PLACE, PLAN_NUMBERS, VIEW};
+use library::{Refusal, IN_BUCKET, PLACE, PLAN_NUMBERS, VIEW};
 use std::fmt::Write as _;
 use std::io::{self, BufRead, BufWriter, Write};
 use std::process::{Command, Stdio};
@@ -109,6 +109,11 @@ fn place_text([first, count, looks, ..]: [u64; PLACE]) -> String {
     format!("{first} {count} {looks}")
 }
 
+/// Nor the bucket size.
+fn in_bucket_text([first, count, ..]: [u64; IN_BUCKET]) -> String {
+    format!("{first} {count}")
+}
+
 fn view_text([start, length, _]: [u64; VIEW]) -> String {
     format!("{start} {length}")
 }
@@ -141,6 +146,9 @@ fn answer(program: &str, line: &str) -> io::Result<Option<String>> {
         }
         ["placeplan", table, file, row, plan, room] => {
             cell([table, file, row, room], plan_of(plan).as_ref(), library::place_planned, place_text)
+        }
+        ["place1", table, file, row, position, room] => {
+            cell([table, file, row, room], number(position), library::place_in_bucket, in_bucket_text)
         }
         ["view", table, file, row, position, room] => {
             cell([table, file, row, room], number(position), library::view, view_text)

@@ -57,6 +57,11 @@ fn placed_as([first_bit, bit_count, looks, entries, _]: [u64; library::PLACE]) -
     model::Placed { first_bit, bit_count, looks, entries }
 }
 
+/// Those of a place in one bucket.
+fn in_bucket_as([first_bit, bit_count, bucket_size, _]: [u64; library::IN_BUCKET]) -> model::InBucket {
+    model::InBucket { first_bit, bit_count, bucket_size }
+}
+
 /// The last column of a table, by its name.
 fn column(what: &str, table: &[u8], calls: u32) {
     let described = model::describe(table).expect("an accepted table");
@@ -170,28 +175,51 @@ impl Files {
         );
     }
 
+    /// Some of the rows, over the whole of the table.
+    fn some_rows(&self) -> impl Iterator<Item = u64> {
+        (0..self.rows).step_by(1 + self.rows as usize / 100)
+    }
+
+    /// Another row at each call, the same rows for each who asks.
+    fn rows_in_turn(&self) -> impl FnMut() -> u64 {
+        let (mut row, rows) = (0, self.rows);
+        move || {
+            row = (row + (rows / 1000).max(7919)) % rows;
+            row
+        }
+    }
+
     fn place(&self) {
-        let Self { table, file, column, rows, .. } = self;
+        let Self { table, file, column, .. } = self;
         let (mut room, mut other) = (vec![0; self.room], vec![0; self.room]);
-        for row in (0..*rows).step_by(1 + *rows as usize / 100) {
+        for row in self.some_rows() {
             let placed = library::place(table, file, row, *column, &mut room);
             let expected = model::place(table, file, row, *column, &mut other);
             assert_eq!(placed.ok().map(placed_as), expected.ok(), "{} row {row}", self.what);
         }
-        // Another row at each call, the same rows for both.
-        let rows_in_turn = || {
-            let mut row = 0;
-            move || {
-                row = (row + (rows / 1000).max(7919)) % rows;
-                row
-            }
-        };
-        let (mut ours, mut theirs) = (rows_in_turn(), rows_in_turn());
+        let (mut ours, mut theirs) = (self.rows_in_turn(), self.rows_in_turn());
         compare(
             self.what,
             self.calls,
             || _ = black_box(library::place(black_box(table), black_box(file), ours(), *column, &mut room)),
             || _ = black_box(model::place(black_box(table), black_box(file), theirs(), *column, &mut other)),
+        );
+    }
+
+    /// Of a file of IncrementalStMan, without a room. It is quick, so there are more calls.
+    fn place_in_bucket(&self) {
+        let Self { table, file, column, .. } = self;
+        for row in self.some_rows() {
+            let placed = library::place_in_bucket(table, file, row, *column, &mut []);
+            let expected = model::place_in_bucket(table, file, row, *column, &mut []);
+            assert_eq!(placed.ok().map(in_bucket_as), expected.ok(), "{} row {row}", self.what);
+        }
+        let (mut ours, mut theirs) = (self.rows_in_turn(), self.rows_in_turn());
+        compare(
+            self.what,
+            self.calls.max(20),
+            || _ = black_box(library::place_in_bucket(black_box(table), black_box(file), ours(), *column, &mut [])),
+            || _ = black_box(model::place_in_bucket(black_box(table), black_box(file), theirs(), *column, &mut [])),
         );
     }
 }
@@ -219,15 +247,19 @@ fn main() {
         Files::new("the same with rows of 64 bits, SSMIndex 2", &wide(many_sets()), 63, 20),
         Files::new("6 columns, 1 set, 1,349 buckets of 32,768 bytes", &large_buckets(), 5, 20),
         Files::new("Incremental: the survey, 5,000,000,000 rows", &writer::samples::survey_file(), 0, 1_000),
-        Files::new("Incremental: 10 columns, 1 bucket of 32,768 bytes", &incremental(1), 5, 200),
-        Files::new("Incremental: 10 columns, 4,000 buckets of 32,768 bytes", &incremental(4_000), 5, 1),
+        Files::new("Incremental: 10 columns, 1 bucket of 32,768 bytes", &incremental(1, 20), 5, 200),
+        Files::new("Incremental: 10 columns, 4,000 buckets of 32,768 bytes", &incremental(4_000, 20), 5, 1),
     ];
+    // The index of the last of them, and more in each bucket: a check reads ten times as much, the place in one bucket only in that.
+    let more = Files::new("the same index, buckets with 10 times as many values", &incremental(4_000, 200), 5, 1);
     title("File check of");
-    files.iter().for_each(Files::check);
+    files.iter().chain([&more]).for_each(Files::check);
     title("Plan of a column in");
     files.iter().for_each(Files::plan);
     title("Place in");
     files.iter().for_each(Files::place);
+    title("Place in one bucket of");
+    files[5..].iter().chain([&more]).for_each(Files::place_in_bucket);
     title("Place by a plan in");
     files.iter().for_each(Files::place_planned);
     title("View in");
@@ -303,20 +335,19 @@ fn large_buckets() -> Subject<StandardFile> {
     Subject { table, number: 0, file }
 }
 
-/// So many buckets of 100 rows, each with 20 values of each of ten columns.
-fn incremental(buckets: u32) -> Subject<IncrementalFile> {
-    const ROWS: u32 = 100;
-    const VALUES: u32 = 20;
+/// So many buckets of 200 rows, each with so many values, 200 at most, of each of ten columns.
+fn incremental(buckets: u32, values: u32) -> Subject<IncrementalFile> {
+    const ROWS: u32 = 200;
     const BYTES: u32 = 8;
     let columns = vec![Column::scalar(DOUBLE, ""); 10];
-    let values = |column| {
-        let starts = (0..VALUES).map(|value| (value * (ROWS / VALUES)).into());
-        let offsets = (0..VALUES).map(|value| (column * VALUES + value) * BYTES);
+    let of_column = |column| {
+        let starts = (0..values).map(|value| (value * (ROWS / values)).into());
+        let offsets = (0..values).map(|value| (column * values + value) * BYTES);
         Values::new(starts.collect(), offsets.collect())
     };
     let bucket = |number| {
-        let data = vec![0; (10 * VALUES * BYTES) as usize];
-        DataBucket::new(number, data, (0..10).map(values).collect())
+        let data = vec![0; (10 * values * BYTES) as usize];
+        DataBucket::new(number, data, (0..10).map(of_column).collect())
     };
     let first_rows = (0..=buckets).map(|bucket| (bucket * ROWS).into()).collect();
     let layout = Buckets::new("IncrementalStMan", 5, 1, 32_768, buckets);
