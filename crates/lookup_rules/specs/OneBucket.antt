@@ -43,24 +43,24 @@ pub record PartsRight (t f : List ℕ) (row position : ℕ) : Type 0 where
   pub kept : Kept (describedAs t) (keptIn t position) position
   pub accepted : AcceptedFor (describedAs t) (keptIn t position) f row
 
-abbrev pub inBucket : List ℕ → List ℕ → ℕ → ℕ → ℕ → Answer
-inBucket t f row position l = answerOf t f (PlaceInBucket row position) l
+abbrev pub answerInBucket : List ℕ → List ℕ → ℕ → ℕ → ℕ → Answer
+answerInBucket t f row position l = answerOf t f (PlaceInBucket row position) l
 
 -- What holds of an answer, with a room of l bytes.
 pub record OneBucket (t f : List ℕ) (row position l : ℕ) : Type 0 where
   -- "On an incremental file that the full check accepts its answer equals the full answer for every row and every column kept there",
   -- whatever room each is lent
   pub same : (l′ l″ : ℕ) → inIncremental t (keptIn t position) → answerOf t f (Check (keptIn t position)) l′ .refused .number ≡ 0
-      → inBucket t f row position l ≡ answerOf t f (Place row (Position position)) l″
+      → answerInBucket t f row position l ≡ answerOf t f (Place row (Position position)) l″
   -- "On any other, .. it refuses exactly when one of the parts it checks is faulty"
-  pub exactly : (inBucket t f row position l .refused .number ≡ 0) ↔ PartsRight t f row position
+  pub exactly : (answerInBucket t f row position l .refused .number ≡ 0) ↔ PartsRight t f row position
   -- "with that part's number", and its byte
-  pub refused : inBucket t f row position l .refused ≡ partsFor t f row position
+  pub refused : answerInBucket t f row position l .refused ≡ partsFor t f row position
   -- "else the row's bucket gives the place"
-  pub place : inBucket t f row position l .refused .number ≡ 0
-      → answerBits (inBucket t f row position l) ≡ placeOf (describedAs t) (keptIn t position) f position row
+  pub place : answerInBucket t f row position l .refused .number ≡ 0
+      → answerBits (answerInBucket t f row position l) ≡ placeOf (describedAs t) (keptIn t position) f position row
   -- which is as safe as in a file that is accepted whole
-  pub safe : inBucket t f row position l .refused .number ≡ 0 → SafeThere t f (answerBits (inBucket t f row position l)) row
+  pub safe : answerInBucket t f row position l .refused .number ≡ 0 → SafeThere t f (answerBits (answerInBucket t f row position l)) row
   -- "The room stays all zero"
   pub room : roomAfter t f (PlaceInBucket row position) l ≡ replicate l 0
 
