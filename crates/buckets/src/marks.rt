@@ -40,7 +40,7 @@ pub fn add_numbers(
     let mut at = from;
     let mut left = n;
     while 0 < left {
-        if !add(seen, nb, bytes_at::word(text, at, big)) {
+        if !add(seen, nb, bytes_at::word_there(text, at, big)) {
             return false;
         }
         at += 4;

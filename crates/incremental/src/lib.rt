@@ -85,9 +85,9 @@ fn read_parts(f: &[u8], big: bool, rows: usize, refused: Refusal) -> Parts
         return refuse_parts(before);
     }
     let x = crate::text::read_index(f, big, 512 + h.count * h.size);
-    let own = x.refused;
-    if own.number != 0 {
-        return refuse_parts(own);
+    let why = x.refused;
+    if why.number != 0 {
+        return refuse_parts(why);
     }
     if !buckets::free_list::free_list_ok(f, h.size, h.count, h.free_count, h.first_free) {
         return refuse_parts(Refusal {

@@ -43,6 +43,7 @@ use Rattle.lookup_rules.proofs.Files.{standard-refused, file-incrementa
 use Rattle.lookup_rules.proofs.Refusals.{unchanged}
 use Rattle.lookup_rules.proofs.Stages.{answer-refused, target-sequence, description-passed, stages-sequence, stages-kind, passed, room-zero}
 use Rattle.lookup_rules.proofs.IncrementalPlaces as incremental
+use Rattle.lookup_rules.proofs.Views.{some-bits}
 
 -- ---- 8
 held-there : (k : Kind) (placed : Bool) → isHeld k placed true ≡ isIncremental k && placed
@@ -304,6 +305,7 @@ every-one-bucket t f row position l = record {
   place = λ h.
       incremental.same t f (keptIn t position) l (r t f row position l) (asked t f row position l) (is-there t f row position l h) refl h
       ∙ ap (λ (n : ℕ). placeOf (describedAs t) n f position row) (target-sequence (describedAs t) (r t f row position l));
+  some = λ h. some-bits t f l (r t f row position l) (asked t f row position l) h;
   safe = λ h. incremental.safe t f (keptIn t position) l (r t f row position l) (asked t f row position l) (is-there t f row position l h) refl h;
   room = room-is t f row position l;
 }

@@ -30,11 +30,11 @@ use Rattle.lookup_rules.specs.declared.Request.{Request}
 use Rattle.lookup_rules.specs.declared.Asked.{Asked}
 use Rattle.lookup_rules.specs.declared.Question.the-variants.{Place, View}
 use Rattle.lookup_rules.specs.declared.Answer.{Answer}
-use Rattle.lookup_rules.specs.Questions.{columnOf, requestOf, kindWith, isSeen, targetOf, planFor, stagesAfter, stagesOf, answered, answerFor, answerOf}
+use Rattle.lookup_rules.specs.Questions.{requestOf, kindWith, isSeen, targetOf, planFor, stagesAfter, stagesOf, answered, answerFor, answerOf}
 use Rattle.lookup_rules.specs.Answers.{answerBits}
 use Rattle.lookup_rules.specs.Stale.{planOfNow}
 use Rattle.lookup_rules.specs.Views.{HoldsCell, EveryView, ViewsPlace, EveryPlaceHasBits}
-use Rattle.lookup_rules.proofs.CellAsked.{Cell, cell-column}
+use Rattle.lookup_rules.proofs.CellAsked.{Cell, cell-sequence, cell-column}
 use Rattle.table_rules.proofs.WholeBytes.{Even8, eight, times-even}
 use Rattle.table_rules.proofs.Described.{described}
 use Rattle.table_rules.proofs.SomeBits.{bits-some}
@@ -165,26 +165,27 @@ views-place t f l row a h = rw (same-stages t f l row a (rw (answer-refused t f 
 bits-there : (bits : ℕ) → 0 < bits → 0 < 8 * ceil8 bits
 bits-there bits h = omega arith
 
-module _ (t f : List ℕ) (l row : ℕ) (a : Asked) (h : answerOf t f (Place row a) l .refused .number ≡ 0) where
-  abbrev p : Request
-  p = requestOf (Place row a)
-
-  held : Cell p
-  held = record { cell = refl; column = refl }
-
-  described-some : 0 < columnIn (describedAs t) (columnOf a) .bits
+module _ (t f : List ℕ) (l : ℕ) (p : Request) (held : Cell p) (h : answerFor t f p l .refused .number ≡ 0) where
+  described-some : 0 < columnIn (describedAs t) (p .position) .bits
   described-some =
-      bits-some t (columnOf a) (description-passed (describedAs t) p (passed t f p l h .held)) (cell-column p _ held (passed t f p l h .column))
+      bits-some t (p .position) (description-passed (describedAs t) p (passed t f p l h .held)) (cell-column p _ held (passed t f p l h .column))
 
-  some-by : (k : Kind) → kindWith (describedAs t .managers) (describedAs t .«manager_count») (bindingIn (describedAs t) (columnOf a) .sequence) ≡ k
+  own-kind : targetFor t f p l .sequence ≡ bindingIn (describedAs t) (p .position) .sequence
+  own-kind = target-sequence (describedAs t) p ∙ cell-sequence p _ held
+
+  some-by : (k : Kind) → kindWith (describedAs t .managers) (describedAs t .«manager_count») (bindingIn (describedAs t) (p .position) .sequence) ≡ k
       → 0 < answerFor t f p l .count
   unfolding incrementalPlace
-  some-by Other e = absurd (rw (target-sequence (describedAs t) p, e) at (target-held (describedAs t) p (passed t f p l h .held)))
+  some-by Other e = absurd (rw (own-kind, e) at (target-held (describedAs t) p (passed t f p l h .held)))
   some-by Standard e =
-      rw (ap (λ (b : Bits). b .count) (standard.shown t f _ l p held e refl h .same), column-same (describedAs t) _ f (columnOf a) (cell-column p _ held (passed t f p l h .column)))
+      rw (ap (λ (b : Bits). b .count) (standard.shown t f _ l p held e refl h .same), column-same (describedAs t) _ f (p .position) (cell-column p _ held (passed t f p l h .column)))
       described-some
   some-by Incremental e = rw (ap (λ (b : Bits). b .count) (incremental.same t f _ l p held e refl h)) (bits-there _ described-some)
 
+  -- of every answer to a question that asks for a cell
+  pub some-bits : 0 < answerFor t f p l .count
+  some-bits = some-by _ refl
+
 -- Every place that is not refused has bits, and so has every view, which is of the same bits.
 pub every-place-has-bits : EveryPlaceHasBits
-every-place-has-bits t f l row a h = some-by t f l row a h _ refl
+every-place-has-bits t f l row a h = some-bits t f l (requestOf (Place row a)) (record { cell = refl; column = refl }) h

@@ -1,5 +1,5 @@
 -- RULES.md 7.9 and 9.4, Place in one bucket: the parts that it checks, and what holds of every answer.
-use Prim.Native.Nat.{ℕ}
+use Prim.Native.Nat.{ℕ, _<_}
 use mathlib.Core.Path.{_≡_}
 use mathlib.Core.Logic.{_↔_}
 use mathlib.Core.List.{List}
@@ -59,7 +59,8 @@ pub record OneBucket (t f : List ℕ) (row position l : ℕ) : Type 0 where
   -- "else the row's bucket gives the place"
   pub place : answerInBucket t f row position l .refused .number ≡ 0
       → answerBits (answerInBucket t f row position l) ≡ placeOf (describedAs t) (keptIn t position) f position row
-  -- which is as safe as in a file that is accepted whole
+  -- which is never empty, and as safe as in a file that is accepted whole
+  pub some : answerInBucket t f row position l .refused .number ≡ 0 → 0 < answerInBucket t f row position l .count
   pub safe : answerInBucket t f row position l .refused .number ≡ 0 → SafeThere t f (answerBits (answerInBucket t f row position l)) row
   -- "The room stays all zero"
   pub room : roomAfter t f (PlaceInBucket row position) l ≡ replicate l 0
