@@ -122,12 +122,8 @@ pub fn of_view(a: Answer) -> [u64; 3]
 pub fn of_place_in_bucket(a: Answer) -> [u64; 4]
     ensures { λ r. ⌜ r ≡ inBucketNumbers a ⌝ }
 {
-    [
-        a.first as u64,
-        a.count as u64,
-        a.size as u64,
-        a.refused.byte as u64,
-    ]
+    let bits = a.count as u64;
+    [a.first as u64, bits, a.size as u64, a.refused.byte as u64]
 }
 
 // The first nine numbers as a plan.
