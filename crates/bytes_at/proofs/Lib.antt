@@ -15,3 +15,4 @@ pub mod MoreTests
 pub mod Apart
 pub mod Listed
 pub mod Room
+pub mod Zeros

@@ -9,6 +9,8 @@ ghost use lib.Dec.{leb};
 ghost use lib.Seq.{paste};
 ghost use Rattle.bytes_at.specs.Number.{bytesOf, intWidth, uintOf};
 ghost use Rattle.bytes_at.specs.Stages.{blaming};
+ghost use Rattle.bytes_at.specs.Bytes.{firstZero, beforeZero};
+ghost use denote.Ref.{ptr};
 
 // Why something is refused: its number (RULES.md 8.1), which is 0 where nothing is, and the byte at which the failing field begins
 // (RULES.md 8.5). Byte 0 is a place too, so the number alone tells whether anything is refused.
@@ -259,6 +261,29 @@ pub fn rest(s: &[u8], start: usize) -> &[u8]
         return &s[..0];
     }
     &s[start..]
+}
+
+// How many bytes stand before the first zero byte.
+pub fn first_zero(s: &[u8]) -> usize
+    ensures { λ r. ⌜ (r ≡ firstZero (now (s .entry))) × (r ≤ length (now (s .entry))) ⌝ }
+{
+    let n = s.len();
+    let mut i = 0;
+    while i < n {
+        if s[i] == 0 {
+            return i;
+        }
+        i += 1;
+    }
+    i
+}
+
+// What stands before the first zero byte, all of it where there is none.
+pub fn before_zero(s: &[u8]) -> &[u8]
+    ensures { λ r. ⌜ (now r ≡ beforeZero (now (s .entry))) × (ptr r ≡ ptr (s .entry)) ⌝ }
+{
+    let n = first_zero(s);
+    &s[..n]
 }
 
 // Sets every byte to 0.

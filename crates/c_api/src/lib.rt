@@ -9,6 +9,7 @@ ghost use Rattle.table_rules.specs.DataType.{elementBits};
 ghost use Rattle.table_rules.specs.Table.{describedAs, columnNamed, positionRefusal};
 ghost use Rattle.c_numbers.specs.Answers.{written, summaryOf, columnRefusal, columnNumbers, managerRefusal, managerNumbers, positionNumbers, ifNine};
 ghost use Rattle.lookup_rules.specs.Questions.{answerOf, roomAfter};
+ghost use Rattle.lookup_rules.specs.Views.{paddedOf, viewOf, partOf};
 ghost use Rattle.c_numbers.specs.Numbers.{checkNumbers, planNumbers, placeNumbers, viewNumbers, inBucketNumbers, planFrom};
 use lookup_rules::Asked;
 use lookup_rules::Question;
@@ -123,12 +124,20 @@ fn answer_place(table: &[u8], file: &[u8], q: Question, room: &mut [u8], out: &m
     a.refused.number as u64
 }
 
-// A view: the start and the length of the cell's part of the file, in bytes.
-fn answer_view(table: &[u8], file: &[u8], q: Question, room: &mut [u8], out: &mut [u64]) -> u64
-    ensures { λ r. ⌜ (r ≡ answerOf (now (table .entry)) (now (file .entry)) q (length (now (room .entry))) .refused .number) × (now (out .exit) ≡ written (viewNumbers (answerOf (now (table .entry)) (now (file .entry)) q (length (now (room .entry))))) (now (out .entry))) × (now (room .exit) ≡ roomAfter (now (table .entry)) (now (file .entry)) q (length (now (room .entry)))) ⌝ }
+// A view, padded or not: the start and the length of its part of the file, in bytes.
+fn answer_view(
+    table: &[u8],
+    file: &[u8],
+    q: Question,
+    padded: bool,
+    room: &mut [u8],
+    out: &mut [u64],
+) -> u64
+    ensures { λ r. ⌜ (r ≡ answerOf (now (table .entry)) (now (file .entry)) q (length (now (room .entry))) .refused .number) × (now (out .exit) ≡ written (viewNumbers (answerOf (now (table .entry)) (now (file .entry)) q (length (now (room .entry)))) (length (partOf padded (now (file .entry)) (answerOf (now (table .entry)) (now (file .entry)) q (length (now (room .entry))))))) (now (out .entry))) × (now (room .exit) ≡ roomAfter (now (table .entry)) (now (file .entry)) q (length (now (room .entry)))) ⌝ }
 {
     let a = lookup::ask::ask(table, file, q, room);
-    let values = c_numbers::of_view(a);
+    let part = lookup_question::types::part_of(file, a, padded);
+    let values = c_numbers::of_view(a, part.len());
     c_numbers::values::write(&values, out);
     a.refused.number as u64
 }
@@ -180,8 +189,8 @@ pub extern "C" fn hv_place_planned(
     )
 }
 
-// View, of a row and a position: where the cell's part of the file starts and how long it is, in bytes, and the byte of the refusal,
-// 3 numbers.
+// View, of a row and a position: where its part of the file starts and how long it is, in bytes, and the byte of the refusal, 3
+// numbers. Of a String scalar with a maximum in StandardStMan it is the text, of every other column the whole cell.
 #[no_mangle]
 pub extern "C" fn hv_view(
     table: &[u8],
@@ -191,15 +200,10 @@ pub extern "C" fn hv_view(
     room: &mut [u8],
     out: &mut [u64],
 ) -> u64
-    ensures { λ r. ⌜ (r ≡ answerOf (now (table .entry)) (now (file .entry)) (Question.View row (Asked.Position position)) (length (now (room .entry))) .refused .number) × (now (out .exit) ≡ written (viewNumbers (answerOf (now (table .entry)) (now (file .entry)) (Question.View row (Asked.Position position)) (length (now (room .entry))))) (now (out .entry))) × (now (room .exit) ≡ roomAfter (now (table .entry)) (now (file .entry)) (Question.View row (Asked.Position position)) (length (now (room .entry)))) ⌝ }
+    ensures { λ r. ⌜ (r ≡ answerOf (now (table .entry)) (now (file .entry)) (Question.View row (Asked.Position position)) (length (now (room .entry))) .refused .number) × (now (out .exit) ≡ written (viewNumbers (answerOf (now (table .entry)) (now (file .entry)) (Question.View row (Asked.Position position)) (length (now (room .entry)))) (length (viewOf (now (file .entry)) (answerOf (now (table .entry)) (now (file .entry)) (Question.View row (Asked.Position position)) (length (now (room .entry))))))) (now (out .entry))) × (now (room .exit) ≡ roomAfter (now (table .entry)) (now (file .entry)) (Question.View row (Asked.Position position)) (length (now (room .entry)))) ⌝ }
 {
-    answer_view(
-        table,
-        file,
-        Question::View(row as usize, Asked::Position(position as usize)),
-        room,
-        out,
-    )
+    let q = Question::View(row as usize, Asked::Position(position as usize));
+    answer_view(table, file, q, false, room, out)
 }
 
 // The same for a prepared plan of nine numbers; 255, and nothing is written, where it has fewer.
@@ -212,19 +216,52 @@ pub extern "C" fn hv_view_planned(
     room: &mut [u8],
     out: &mut [u64],
 ) -> u64
-    ensures { λ r. ⌜ (r ≡ ifNine (now (plan .entry)) 255 (answerOf (now (table .entry)) (now (file .entry)) (Question.View row (Asked.Planned (planFrom (now (plan .entry))))) (length (now (room .entry))) .refused .number)) × (now (out .exit) ≡ ifNine (now (plan .entry)) (now (out .entry)) (written (viewNumbers (answerOf (now (table .entry)) (now (file .entry)) (Question.View row (Asked.Planned (planFrom (now (plan .entry))))) (length (now (room .entry))))) (now (out .entry)))) × (now (room .exit) ≡ ifNine (now (plan .entry)) (now (room .entry)) (roomAfter (now (table .entry)) (now (file .entry)) (Question.View row (Asked.Planned (planFrom (now (plan .entry))))) (length (now (room .entry))))) ⌝ }
+    ensures { λ r. ⌜ (r ≡ ifNine (now (plan .entry)) 255 (answerOf (now (table .entry)) (now (file .entry)) (Question.View row (Asked.Planned (planFrom (now (plan .entry))))) (length (now (room .entry))) .refused .number)) × (now (out .exit) ≡ ifNine (now (plan .entry)) (now (out .entry)) (written (viewNumbers (answerOf (now (table .entry)) (now (file .entry)) (Question.View row (Asked.Planned (planFrom (now (plan .entry))))) (length (now (room .entry)))) (length (viewOf (now (file .entry)) (answerOf (now (table .entry)) (now (file .entry)) (Question.View row (Asked.Planned (planFrom (now (plan .entry))))) (length (now (room .entry))))))) (now (out .entry)))) × (now (room .exit) ≡ ifNine (now (plan .entry)) (now (room .entry)) (roomAfter (now (table .entry)) (now (file .entry)) (Question.View row (Asked.Planned (planFrom (now (plan .entry))))) (length (now (room .entry))))) ⌝ }
 {
     if plan.len() < 9 {
         return 255;
     }
     let p = c_numbers::plan_from(plan);
-    answer_view(
-        table,
-        file,
-        Question::View(row as usize, Asked::Planned(p)),
-        room,
-        out,
-    )
+    let planned = Question::View(row as usize, Asked::Planned(p));
+    answer_view(table, file, planned, false, room, out)
+}
+
+// Padded view, of a row and a position: the same numbers, of the whole cell in every column.
+#[no_mangle]
+pub extern "C" fn hv_padded_view(
+    table: &[u8],
+    file: &[u8],
+    row: u64,
+    position: u64,
+    room: &mut [u8],
+    out: &mut [u64],
+) -> u64
+    ensures { λ r. ⌜ (r ≡ answerOf (now (table .entry)) (now (file .entry)) (Question.View row (Asked.Position position)) (length (now (room .entry))) .refused .number) × (now (out .exit) ≡ written (viewNumbers (answerOf (now (table .entry)) (now (file .entry)) (Question.View row (Asked.Position position)) (length (now (room .entry)))) (length (paddedOf (now (file .entry)) (answerOf (now (table .entry)) (now (file .entry)) (Question.View row (Asked.Position position)) (length (now (room .entry))))))) (now (out .entry))) × (now (room .exit) ≡ roomAfter (now (table .entry)) (now (file .entry)) (Question.View row (Asked.Position position)) (length (now (room .entry)))) ⌝ }
+{
+    let asked = Asked::Position(position as usize);
+    let q = Question::View(row as usize, asked);
+    answer_view(table, file, q, true, room, out)
+}
+
+// The same for a prepared plan of nine numbers; 255, and nothing is written, where it has fewer.
+#[no_mangle]
+pub extern "C" fn hv_padded_view_planned(
+    table: &[u8],
+    file: &[u8],
+    row: u64,
+    plan: &[u64],
+    room: &mut [u8],
+    out: &mut [u64],
+) -> u64
+    ensures { λ r. ⌜ (r ≡ ifNine (now (plan .entry)) 255 (answerOf (now (table .entry)) (now (file .entry)) (Question.View row (Asked.Planned (planFrom (now (plan .entry))))) (length (now (room .entry))) .refused .number)) × (now (out .exit) ≡ ifNine (now (plan .entry)) (now (out .entry)) (written (viewNumbers (answerOf (now (table .entry)) (now (file .entry)) (Question.View row (Asked.Planned (planFrom (now (plan .entry))))) (length (now (room .entry)))) (length (paddedOf (now (file .entry)) (answerOf (now (table .entry)) (now (file .entry)) (Question.View row (Asked.Planned (planFrom (now (plan .entry))))) (length (now (room .entry))))))) (now (out .entry)))) × (now (room .exit) ≡ ifNine (now (plan .entry)) (now (room .entry)) (roomAfter (now (table .entry)) (now (file .entry)) (Question.View row (Asked.Planned (planFrom (now (plan .entry))))) (length (now (room .entry))))) ⌝ }
+{
+    if plan.len() < 9 {
+        return 255;
+    }
+    let p = c_numbers::plan_from(plan);
+    let asked = Asked::Planned(p);
+    let planned = Question::View(row as usize, asked);
+    answer_view(table, file, planned, true, room, out)
 }
 
 // Place in one bucket, of a row and a position in IncrementalStMan: first bit and bit count, the file's bucket size, the byte, 4 numbers.

@@ -66,9 +66,9 @@ planFrom s = record {
 abbrev pub placeNumbers : Answer → List ℕ
 placeNumbers a = withByte (a .first ∷ a .count ∷ a .looks ∷ a .entries ∷ []) (a .refused)
 
--- View: the same part of the file in bytes, its start and its length
-abbrev pub viewNumbers : Answer → List ℕ
-viewNumbers a = withByte (a .first / 8 ∷ a .count / 8 ∷ []) (a .refused)
+-- View and padded view: the start of the part of the file, and its length, both in bytes
+abbrev pub viewNumbers : Answer → ℕ → List ℕ
+viewNumbers a len = withByte (a .first / 8 ∷ len ∷ []) (a .refused)
 
 -- Place in one bucket: first bit and bit count, and the bucket size of the file
 abbrev pub inBucketNumbers : Answer → List ℕ

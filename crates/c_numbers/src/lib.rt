@@ -107,15 +107,11 @@ pub fn of_place(a: Answer) -> [u64; 5]
     ]
 }
 
-// A view: the start and the length of the cell's part of the file, in bytes.
-pub fn of_view(a: Answer) -> [u64; 3]
-    ensures { λ r. ⌜ r ≡ viewNumbers a ⌝ }
+// A view, padded or not: the start and the length of its part of the file, in bytes.
+pub fn of_view(a: Answer, len: usize) -> [u64; 3]
+    ensures { λ r. ⌜ r ≡ viewNumbers a len ⌝ }
 {
-    [
-        (a.first / 8) as u64,
-        (a.count / 8) as u64,
-        a.refused.byte as u64,
-    ]
+    [(a.first / 8) as u64, len as u64, a.refused.byte as u64]
 }
 
 // A place in one bucket: first bit and bit count, and the file's bucket size.

@@ -1,6 +1,7 @@
 // The answer of a question that all stages are known of, and the one place that clears the room (RULES.md 7.7 and 7.8).
 ghost use mathlib.Core.Path.{_≡_};
 ghost use mathlib.Core.Bool.{true, false, cond};
+ghost use Rattle.table_rules.specs.ColumnDesc.{noColumn};
 ghost use Rattle.lookup_rules.specs.Questions.{noPlan};
 ghost use Rattle.lookup.specs.Answering.{keepsText, roomSettled, Findable, cellFound, answerWith};
 use bytes_at::Refusal;
@@ -9,6 +10,7 @@ use lookup_rules::Plan;
 use lookup_rules::Request;
 use lookup_rules::Staged;
 use standard::Located;
+use table_rules::Column;
 
 // Whether the room keeps the index text.
 pub fn keeps_text(s: Staged) -> bool
@@ -64,7 +66,17 @@ fn told(column: bool, p: Plan) -> Plan
     lookup_question::reading::no_plan()
 }
 
-// A refusal, and zeros. Every other answer has the file's bucket size; a check answers no plan, and only a
+// The column that is answered: none where no column is asked for.
+fn told_column(column: bool, c: Column) -> Column
+    ensures { λ x. ⌜ x ≡ cond column c noColumn ⌝ }
+{
+    if column {
+        return c;
+    }
+    table_column_desc::columns::no_column()
+}
+
+// A refusal, and zeros. Every other answer has the file's bucket size; a check answers no plan and no column, and only a
 // place or a view has bits and looks.
 pub fn answer(r: Request, s: Staged, cell: Located) -> Answer
     ensures { λ a. ⌜ a ≡ answerWith r s cell ⌝ }
@@ -75,6 +87,7 @@ pub fn answer(r: Request, s: Staged, cell: Located) -> Answer
             refused: refused,
             size: 0,
             plan: lookup_question::reading::no_plan(),
+            column: table_column_desc::columns::no_column(),
             first: 0,
             count: 0,
             looks: 0,
@@ -82,11 +95,13 @@ pub fn answer(r: Request, s: Staged, cell: Located) -> Answer
         };
     }
     let p = s.plan;
+    let c = s.column;
     if r.cell {
         return Answer {
             refused: Refusal { number: 0, byte: 0 },
             size: p.size,
             plan: told(r.column, p),
+            column: told_column(r.column, c),
             first: cell.first,
             count: p.bits,
             looks: cell.looks,
@@ -97,6 +112,7 @@ pub fn answer(r: Request, s: Staged, cell: Located) -> Answer
         refused: Refusal { number: 0, byte: 0 },
         size: p.size,
         plan: told(r.column, p),
+        column: told_column(r.column, c),
         first: 0,
         count: 0,
         looks: 0,

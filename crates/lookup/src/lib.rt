@@ -7,7 +7,8 @@ ghost use lib.ListN.{length};
 ghost use Prim.Native.Nat.{_+_, _/_};
 ghost use denote.Ref.{ptr};
 ghost use Rattle.lookup_rules.specs.Questions.{answerOf, roomAfter};
-ghost use Rattle.lookup_rules.specs.Answers.{verdictOf, verdictRefusal, plannedOf, plannedRefusal, plannedPlan, placedOf, placedRefusal, placedBits, placedLooks, placedInBucketOf, inBucketRefusal, inBucketBits, inBucketSize, answerBits, answerLooks, viewOf};
+ghost use Rattle.lookup_rules.specs.Answers.{verdictOf, verdictRefusal, plannedOf, plannedRefusal, plannedPlan, placedOf, placedRefusal, placedBits, placedLooks, placedInBucketOf, inBucketRefusal, inBucketBits, inBucketSize, answerBits, answerLooks};
+ghost use Rattle.lookup_rules.specs.Views.{paddedOf, viewOf, Viewed};
 ghost use Rattle.lookup_rules.specs.OneBucket.{OneBucket};
 use bytes_at::Refusal;
 use lookup_rules::Asked;
@@ -64,7 +65,8 @@ pub fn place_planned(table: &[u8], file: &[u8], row: usize, plan: Plan, room: &m
     lookup_question::types::placed(a)
 }
 
-// View of a row and a column position: the part of the file that holds the cell, the empty part where it is refused.
+// View of a row and a column position: the part of the file that holds the cell, of a String scalar with a maximum in StandardStMan
+// its text alone; the empty part where it is refused.
 pub fn view<'f>(
     table: &[u8],
     file: &'f [u8],
@@ -73,6 +75,7 @@ pub fn view<'f>(
     room: &mut [u8],
 ) -> &'f [u8]
     ensures { λ r. ⌜ (now r ≡ viewOf (now (file .entry)) (answerOf (now (table .entry)) (now (file .entry)) (Question.View row (Asked.Position position)) (length (now (room .entry))))) × (ptr r ≡ (ptr (file .entry) .0, ptr (file .entry) .1 + answerOf (now (table .entry)) (now (file .entry)) (Question.View row (Asked.Position position)) (length (now (room .entry))) .first / 8)) × (now (room .exit) ≡ roomAfter (now (table .entry)) (now (file .entry)) (Question.View row (Asked.Position position)) (length (now (room .entry)))) ⌝ }
+    ensures shows { λ r. ⌜ Viewed (now (table .entry)) (now (file .entry)) (length (now (room .entry))) row (Asked.Position position) (now r) (answerOf (now (table .entry)) (now (file .entry)) (Question.View row (Asked.Position position)) (length (now (room .entry))) .refused) ⌝ }
 {
     let a = crate::ask::ask(
         table,
@@ -80,10 +83,26 @@ pub fn view<'f>(
         Question::View(row, Asked::Position(position)),
         room,
     );
-    lookup_question::types::part_of(file, a)
+    lookup_question::types::part_of(file, a, false)
 }
 
-// Why that view is refused; the refusal's number is 0 where it is not.
+// Padded view of a row and a column position: the part of the file that holds the whole cell, the empty part where it is refused.
+pub fn padded_view<'f>(
+    table: &[u8],
+    file: &'f [u8],
+    row: usize,
+    position: usize,
+    room: &mut [u8],
+) -> &'f [u8]
+    ensures { λ r. ⌜ (now r ≡ paddedOf (now (file .entry)) (answerOf (now (table .entry)) (now (file .entry)) (Question.View row (Asked.Position position)) (length (now (room .entry))))) × (ptr r ≡ (ptr (file .entry) .0, ptr (file .entry) .1 + answerOf (now (table .entry)) (now (file .entry)) (Question.View row (Asked.Position position)) (length (now (room .entry))) .first / 8)) × (now (room .exit) ≡ roomAfter (now (table .entry)) (now (file .entry)) (Question.View row (Asked.Position position)) (length (now (room .entry)))) ⌝ }
+{
+    let asked = Asked::Position(position);
+    let a = crate::ask::ask(table, file, Question::View(row, asked), room);
+    lookup_question::types::part_of(file, a, true)
+}
+
+// Why that view, and the padded one, is refused; the refusal's number is 0 where it is not. So it tells an empty text from a refused
+// view.
 pub fn view_refusal(
     table: &[u8],
     file: &[u8],
@@ -92,6 +111,7 @@ pub fn view_refusal(
     room: &mut [u8],
 ) -> Refusal
     ensures { λ r. ⌜ (r ≡ answerOf (now (table .entry)) (now (file .entry)) (Question.View row (Asked.Position position)) (length (now (room .entry))) .refused) × (now (room .exit) ≡ roomAfter (now (table .entry)) (now (file .entry)) (Question.View row (Asked.Position position)) (length (now (room .entry)))) ⌝ }
+    ensures tells { λ r. ⌜ Viewed (now (table .entry)) (now (file .entry)) (length (now (room .entry))) row (Asked.Position position) (viewOf (now (file .entry)) (answerOf (now (table .entry)) (now (file .entry)) (Question.View row (Asked.Position position)) (length (now (room .entry))))) r ⌝ }
 {
     let q = Question::View(row, Asked::Position(position));
     let a = crate::ask::ask(table, file, q, room);
@@ -107,12 +127,28 @@ pub fn view_planned<'f>(
     room: &mut [u8],
 ) -> &'f [u8]
     ensures { λ r. ⌜ (now r ≡ viewOf (now (file .entry)) (answerOf (now (table .entry)) (now (file .entry)) (Question.View row (Asked.Planned plan)) (length (now (room .entry))))) × (ptr r ≡ (ptr (file .entry) .0, ptr (file .entry) .1 + answerOf (now (table .entry)) (now (file .entry)) (Question.View row (Asked.Planned plan)) (length (now (room .entry))) .first / 8)) × (now (room .exit) ≡ roomAfter (now (table .entry)) (now (file .entry)) (Question.View row (Asked.Planned plan)) (length (now (room .entry)))) ⌝ }
+    ensures shows { λ r. ⌜ Viewed (now (table .entry)) (now (file .entry)) (length (now (room .entry))) row (Asked.Planned plan) (now r) (answerOf (now (table .entry)) (now (file .entry)) (Question.View row (Asked.Planned plan)) (length (now (room .entry))) .refused) ⌝ }
 {
-    let a = crate::ask::ask(table, file, Question::View(row, Asked::Planned(plan)), room);
-    lookup_question::types::part_of(file, a)
+    let planned = crate::ask::ask(table, file, Question::View(row, Asked::Planned(plan)), room);
+    lookup_question::types::part_of(file, planned, false)
 }
 
-// Why that view is refused; the refusal's number is 0 where it is not.
+// Padded view of a row by a prepared plan.
+pub fn padded_view_planned<'f>(
+    table: &[u8],
+    file: &'f [u8],
+    row: usize,
+    plan: Plan,
+    room: &mut [u8],
+) -> &'f [u8]
+    ensures { λ r. ⌜ (now r ≡ paddedOf (now (file .entry)) (answerOf (now (table .entry)) (now (file .entry)) (Question.View row (Asked.Planned plan)) (length (now (room .entry))))) × (ptr r ≡ (ptr (file .entry) .0, ptr (file .entry) .1 + answerOf (now (table .entry)) (now (file .entry)) (Question.View row (Asked.Planned plan)) (length (now (room .entry))) .first / 8)) × (now (room .exit) ≡ roomAfter (now (table .entry)) (now (file .entry)) (Question.View row (Asked.Planned plan)) (length (now (room .entry)))) ⌝ }
+{
+    let asked = Asked::Planned(plan);
+    let planned = crate::ask::ask(table, file, Question::View(row, asked), room);
+    lookup_question::types::part_of(file, planned, true)
+}
+
+// Why that view, and the padded one, is refused; the refusal's number is 0 where it is not.
 pub fn view_planned_refusal(
     table: &[u8],
     file: &[u8],
@@ -121,6 +157,7 @@ pub fn view_planned_refusal(
     room: &mut [u8],
 ) -> Refusal
     ensures { λ r. ⌜ (r ≡ answerOf (now (table .entry)) (now (file .entry)) (Question.View row (Asked.Planned plan)) (length (now (room .entry))) .refused) × (now (room .exit) ≡ roomAfter (now (table .entry)) (now (file .entry)) (Question.View row (Asked.Planned plan)) (length (now (room .entry)))) ⌝ }
+    ensures tells { λ r. ⌜ Viewed (now (table .entry)) (now (file .entry)) (length (now (room .entry))) row (Asked.Planned plan) (viewOf (now (file .entry)) (answerOf (now (table .entry)) (now (file .entry)) (Question.View row (Asked.Planned plan)) (length (now (room .entry))))) r ⌝ }
 {
     let q = Question::View(row, Asked::Planned(plan));
     let a = crate::ask::ask(table, file, q, room);

@@ -1,14 +1,17 @@
-// An answer as the type of its question: a verdict, a plan, a place, or a part of the file (RULES.md 7.7).
+// An answer as the type of its question: a verdict, a plan, a place, or a part of the file (RULES.md 7.7 and 7.10).
 ghost use mathlib.Core.Path.{_≡_};
 ghost use Prim.Native.Nat.{_+_, _/_};
 ghost use lib.ListN.{length, take, drop};
 ghost use denote.Ref.{ptr};
-ghost use Rattle.lookup_rules.specs.Answers.{verdictOf, plannedOf, placedOf, placedInBucketOf, viewOf};
+ghost use Rattle.table_rules.specs.ColumnDesc.{isPadded};
+ghost use Rattle.lookup_rules.specs.Answers.{verdictOf, plannedOf, placedOf, placedInBucketOf};
+ghost use Rattle.lookup_rules.specs.Views.{partOf};
 use lookup_rules::Answer;
 use lookup_rules::Placed;
 use lookup_rules::PlacedInBucket;
 use lookup_rules::Planned;
 use lookup_rules::Verdict;
+use table_rules::Column;
 
 pub fn verdict(a: Answer) -> Verdict
     ensures { λ r. ⌜ r ≡ verdictOf a ⌝ }
@@ -74,9 +77,27 @@ pub fn part_from(s: &[u8], start: usize, len: usize) -> &[u8]
     &s[start..start + len]
 }
 
-// The part of the file that an answer's bits fill; the empty part where it is refused.
-pub fn part_of(file: &[u8], a: Answer) -> &[u8]
-    ensures { λ r. ⌜ (now r ≡ viewOf (now (file .entry)) a) × (ptr r ≡ (ptr (file .entry) .0, ptr (file .entry) .1 + length (take (a .first / 8) (now (file .entry))))) ⌝ }
+// Whether a column is a String scalar with a maximum.
+pub fn is_padded(c: Column) -> bool
+    ensures { λ r. ⌜ r ≡ isPadded c ⌝ }
 {
-    part_from(file, a.first / 8, a.count / 8)
+    let t = c.datatype;
+    let scalar = bytes_at::both(t.number == 11, !c.array);
+    bytes_at::both(scalar, 0 < c.maximum)
+}
+
+// The part of the file that an answer's bits fill, the whole cell; not padded, it is a text's alone, where the column has texts. The
+// empty part where the answer is a refusal.
+pub fn part_of(file: &[u8], a: Answer, padded: bool) -> &[u8]
+    ensures { λ r. ⌜ (now r ≡ partOf padded (now (file .entry)) a) × (ptr r ≡ (ptr (file .entry) .0, ptr (file .entry) .1 + length (take (a .first / 8) (now (file .entry))))) ⌝ }
+{
+    let whole = part_from(file, a.first / 8, a.count / 8);
+    if padded {
+        return whole;
+    }
+    let c = a.column;
+    if is_padded(c) {
+        return bytes_at::before_zero(whole);
+    }
+    whole
 }

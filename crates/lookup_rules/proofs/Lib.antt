@@ -10,5 +10,6 @@ pub mod Fresh
 pub mod Said
 pub mod Looks
 pub mod Views
+pub mod Texts
 pub mod Blamed
 pub mod OneBucket

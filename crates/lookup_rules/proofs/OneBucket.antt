@@ -41,7 +41,7 @@ use Rattle.lookup_rules.specs.OneBucket.{keptIn, askedThere, partsFor, P
 use Rattle.lookup_rules.proofs.CellAsked.{Cell}
 use Rattle.lookup_rules.proofs.Files.{standard-refused, file-incremental, incremental-refused, checked-clear}
 use Rattle.lookup_rules.proofs.Refusals.{unchanged}
-use Rattle.lookup_rules.proofs.Stages.{answer-refused, target-sequence, description-passed, stages-sequence, stages-kind, passed, room-zero}
+use Rattle.lookup_rules.proofs.Stages.{answer-refused, target-sequence, description-passed, stages-sequence, stages-kind, stages-column, passed, room-zero}
 use Rattle.lookup_rules.proofs.IncrementalPlaces as incremental
 use Rattle.lookup_rules.proofs.Views.{some-bits}
 
@@ -92,12 +92,12 @@ module _ (d : Description) (sequence : ℕ) (f : List ℕ) (refused : Refusal) (
   unfolding checkedBy checkedAs
   size-whole h = told-sized _ _ _ h
 
--- answers to two questions for a cell that are refused alike, of the same plan and cell
+-- answers to two questions for a cell that are refused alike, of the same plan, column and cell
 answered-same : (r r′ : Request) → r .column ≡ r′ .column → r .cell ≡ r′ .cell → (s s′ : Staged) (b : Bits) (n : Looks) → s .refused ≡ s′ .refused
-    → (s .refused .number ≡ 0 → s .plan ≡ s′ .plan) → answered r s b n ≡ answered r′ s′ b n
+    → (s .refused .number ≡ 0 → s .plan ≡ s′ .plan) → s .column ≡ s′ .column → answered r s b n ≡ answered r′ s′ b n
 unfolding answered
-answered-same r r′ c k s s′ b n e p = elim (ℕ-discrete (s .refused .number) 0) [
-  | yes h ↦ rw (← e, eq-eqb (s .refused .number) 0 h, c, k, p h)
+answered-same r r′ c k s s′ b n e p x = elim (ℕ-discrete (s .refused .number) 0) [
+  | yes h ↦ rw (← e, eq-eqb (s .refused .number) 0 h, c, k, p h, x)
   | no h ↦ rw (← e, ne-eqb (s .refused .number) 0 h)
 ]
 
@@ -272,11 +272,14 @@ module _ (t f : List ℕ) (row position l l′ : ℕ) (k : inIncremental t (kept
         ∙ sym (size-whole described (g .sequence) f before (g .position) row (rw (target-sequence described asks) (z (own-exactly described kept f before row .0 y .0)))) in
         rw (same-target, file-incremental described g f l there true row, file-incremental described g f l′ there false row, e)
 
+    same-column : stagesOf t f asks l .column ≡ stagesOf t f r′ l′ .column
+    same-column = rw (stages-column t f asks l, stages-column t f r′ l′, same-target)
+
     same-answer : answerFor t f asks l ≡ answerFor t f r′ l′
     unfolding answerFor
     same-answer =
         rw (stages-kind t f asks l, stages-sequence t f asks l, stages-kind t f r′ l′, stages-sequence t f r′ l′, same-target)
-        (answered-same asks r′ refl refl _ _ _ _ same-refused same-plan)
+        (answered-same asks r′ refl refl _ _ _ _ same-refused same-plan same-column)
 
 -- ---- of a file that the full check accepts
 module _ (t f : List ℕ) (row position l l′ : ℕ) (k : inIncremental t (keptIn t position)) (h : answerOf t f (Check (keptIn t position)) l′ .refused .number ≡ 0) where

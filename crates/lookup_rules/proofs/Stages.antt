@@ -12,6 +12,7 @@ use Rattle.bytes_at.specs.Steps.{_>>=_}
 use Rattle.bytes_at.specs.Stages.{noRefusal}
 use Rattle.bytes_at.proofs.Stages.{then-left, then-right, or-passed, Clear, clear-then, clear-or}
 use Rattle.table_rules.specs.declared.Description.{Description}
+use Rattle.table_rules.specs.ColumnDesc.{noColumn}
 use Rattle.table_rules.specs.Table.{describedAs, columnIn, bindingIn}
 use Rattle.standard_rules.specs.Place.{Bits}
 use Rattle.standard_rules.specs.Looks.{Looks}
@@ -46,6 +47,7 @@ pub answered-is : (r : Request) (s : Staged) (b : Bits) (n : Looks) → s .refus
       refused = noRefusal;
       size = s .plan .size;
       plan = cond (r .column) (s .plan) noPlan;
+      column = cond (r .column) (s .column) noColumn;
       first = cond (r .cell) b noBits .first;
       count = cond (r .cell) b noBits .count;
       looks = cond (r .cell) n noLooks .looks;
@@ -122,6 +124,10 @@ module _ (t f : List ℕ) (r : Request) (l : ℕ) where
   unfolding stagesOf stagesAfter _>>=_
   stages-plan = refl
 
+  pub stages-column : stagesOf t f r l .column ≡ targetFor .column
+  unfolding stagesOf stagesAfter _>>=_
+  stages-column = refl
+
   pub stages-set : stagesOf t f r l .set ≡ checkedFor t f r l .set
   unfolding stagesOf stagesAfter _>>=_
   stages-set = refl
@@ -148,6 +154,7 @@ pub record Passed (t f : List ℕ) (r : Request) (l : ℕ) : Type 0 where
         refused = noRefusal;
         size = stagesOf t f r l .plan .size;
         plan = cond (r .column) (stagesOf t f r l .plan) noPlan;
+        column = cond (r .column) (stagesOf t f r l .column) noColumn;
         first = cellFor t f r l .first;
         count = cellFor t f r l .count;
         looks = looksFor t f r l .looks;

@@ -1,9 +1,8 @@
 -- RULES.md 7.7: each answer in the type of its question, and what each case of that type says: the refusal, and the
 -- values; "A refusal carries its number and zeros", and beside them its byte.
-use Prim.Native.Nat.{ℕ, _/_}
+use Prim.Native.Nat.{ℕ}
 use mathlib.Core.List.{List}
 use mathlib.Core.Bool.{cond}
-use lib.ListN.{take, drop}
 use lib.Dec.{eqb}
 use mathlib.Core.Path.{_≡_}
 use Rattle.bytes_at.specs.declared.Refusal.{Refusal}
@@ -82,10 +81,6 @@ answerBits a = record { first = a .first; count = a .count }
 
 abbrev pub answerLooks : Answer → Looks
 answerLooks a = record { looks = a .looks; entries = a .entries }
-
--- View: "the part of the caller's file that holds the cell. A refused view is the empty part"
-unfoldable pub viewOf : List ℕ → Answer → List ℕ
-viewOf f a = take (a .count / 8) (drop (a .first / 8) f)
 
 -- What the cases say is what the answer says, of every question.
 pub record Says (a : Answer) : Type 0 where

@@ -12,6 +12,7 @@ use Rattle.table_rules.specs.declared.Kind.the-variants.{Other, Standard, Incre
 use Rattle.table_rules.specs.declared.Manager.{Manager}
 use Rattle.table_rules.specs.DataType.{isBool, isString}
 use Rattle.table_rules.specs.declared.Description.{Description}
+use Rattle.table_rules.specs.ColumnDesc.{noColumn}
 use Rattle.table_rules.specs.ColumnSet.{noManager}
 use Rattle.table_rules.specs.Table.{describedAs, columnIn, bindingIn}
 use Rattle.standard_rules.specs.declared.Checked.{Checked}
@@ -201,7 +202,16 @@ stagesAfter r g m rows big = do
   r2 ← r1 ▷ orNo below 9
   seen ← isSeen r (g .incremental) (p .datatype)
   r3 ← r2 ▷ orNo seen 14
-  record { refused = r3; plan = p; sequence = g .sequence; incremental = g .incremental; big = big; set = m .set; first = m .first }
+  record {
+    refused = r3;
+    plan = p;
+    sequence = g .sequence;
+    column = g .column;
+    incremental = g .incremental;
+    big = big;
+    set = m .set;
+    first = m .first;
+  }
 
 -- "Order: table, manager and column (8), file check, plan (12), row (9), 14."
 unfoldable pub stagesOf : List ℕ → List ℕ → Request → ℕ → Staged
@@ -232,10 +242,11 @@ looksIn d incremental sequence f row position =
     cond incremental noLooks here
 
 -- "A refusal carries its number and zeros", and beside them its byte. Every other answer has the file's bucket size; a check answers
--- no plan, and only a place or a view has bits and looks.
+-- no plan and no column, and only a place or a view has bits and looks.
 unfoldable pub answered : Request → Staged → Bits → Looks → Answer
 answered r s b n =
     let plan = cond (r .column) (s .plan) noPlan in
+    let column = cond (r .column) (s .column) noColumn in
     let bits = cond (r .cell) b noBits in
     let looks = cond (r .cell) n noLooks in
     cond (eqb (s .refused .number) 0)
@@ -243,12 +254,13 @@ answered r s b n =
       refused = noRefusal;
       size = s .plan .size;
       plan = plan;
+      column = column;
       first = bits .first;
       count = bits .count;
       looks = looks .looks;
       entries = looks .entries;
     })
-    (record { refused = s .refused; size = 0; plan = noPlan; first = 0; count = 0; looks = 0; entries = 0 })
+    (record { refused = s .refused; size = 0; plan = noPlan; column = noColumn; first = 0; count = 0; looks = 0; entries = 0 })
 
 unfoldable pub answerFor : List ℕ → List ℕ → Request → ℕ → Answer
 answerFor t f r l =

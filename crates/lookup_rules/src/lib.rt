@@ -68,24 +68,26 @@ pub struct FileChecked {
     pub first: usize,
 }
 
-// The refusal after all stages, the fresh plan, the manager's sequence number, whether it is an IncrementalStMan and whether the
-// table is big endian; where the column's set stands in the index text, or where the cell of an IncrementalStMan file begins.
+// The refusal after all stages, the fresh plan, the manager's sequence number, the column, whether the manager is an IncrementalStMan
+// and whether the table is big endian; where the column's set stands in the index text, or where the cell of an IncrementalStMan file begins.
 pub struct Staged {
     pub refused: Refusal,
     pub plan: Plan,
     pub sequence: usize,
+    pub column: Column,
     pub incremental: bool,
     pub big: bool,
     pub set: Set,
     pub first: usize,
 }
 
-// The refusal and zeros; or none, the file's bucket size, the plan, and for a place or a view the first bit and the bit count, with the
-// looks of the search for it and the entries of the column's set.
+// The refusal and zeros; or none, the file's bucket size, the plan and the column, and for a place or a view the first bit and the bit
+// count, with the looks of the search for it and the entries of the column's set.
 pub struct Answer {
     pub refused: Refusal,
     pub size: usize,
     pub plan: Plan,
+    pub column: Column,
     pub first: usize,
     pub count: usize,
     pub looks: usize,

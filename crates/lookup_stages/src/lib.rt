@@ -21,6 +21,7 @@ fn finish(r: Request, g: Target, m: FileChecked, rows: usize, big: bool) -> Stag
     ensures bounded { λ s. ⌜ (s .plan .offset < 4294967296) × (s .plan .bits ≤ 4294967296) ⌝ }
 {
     let p = crate::planning::plan_for(g, m);
+    let c = g.column;
     let s = m.set;
     let r0 = m.refused;
     let fresh = lookup_question::tests::fresh(r, p);
@@ -33,6 +34,7 @@ fn finish(r: Request, g: Target, m: FileChecked, rows: usize, big: bool) -> Stag
         refused: r3,
         plan: p,
         sequence: g.sequence,
+        column: c,
         incremental: g.incremental,
         big: big,
         set: s,

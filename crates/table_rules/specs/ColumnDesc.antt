@@ -1,14 +1,14 @@
 -- RULES.md 4.3 to 4.5, and Note 260, 3.1.1: ColumnDesc, its fields in file order.
-use mathlib.Core.Bool.{Bool, true, false, cond}
+use mathlib.Core.Bool.{Bool, true, false, _&&_, not, cond}
 use Prim.Native.Nat.{ℕ, _%_, _/_, _*_}
 use mathlib.Core.List.{List}
 use lib.ListN.{take, drop, getD, set, replicate}
-use lib.Dec.{eqb, leb}
+use lib.Dec.{eqb, leb, ltb}
 use Rattle.table_rules.specs.declared.data_type.Known.{Known}
 use Rattle.table_rules.specs.declared.data_type.Known.the-variants.{Of, Nothing}
 use Rattle.table_rules.specs.declared.ColumnType.{ColumnType}
 use Rattle.bytes_at.specs.Bytes.{bytes, sameBytes}
-use Rattle.table_rules.specs.DataType.{nthType, elementBits, withName}
+use Rattle.table_rules.specs.DataType.{nthType, elementBits, withName, isString}
 use Rattle.bytes_at.specs.Steps.{_>>=_, after}
 use Rattle.aipsio_rules.specs.declared.Cursor.{Cursor}
 use Rattle.aipsio_rules.specs.Field.{minusOne, judged, stringAt, versionAt, settled, codeAt, uintAt, skipped, flagAt, numberAt}
@@ -178,6 +178,10 @@ noColumn = record {
   maximum = 0;
   bits = 0;
 }
+
+-- "a String scalar with a maximum": zero bytes fill its cells up to the maximum
+unfoldable pub isPadded : Column → Bool
+isPadded c = isString (c .datatype .number) && not (c .array) && ltb 0 (c .maximum)
 
 -- a column's name, a part of table.dat
 abbrev pub nameIn : List ℕ → Column → List ℕ

@@ -14,6 +14,7 @@ use Rattle.bytes_at.specs.declared.Refusal.{Refusal}
 use Rattle.bytes_at.specs.Stages.{noRefusal}
 use Rattle.bytes_at.specs.Steps.{_>>=_}
 use Rattle.table_rules.specs.declared.Column.{Column}
+use Rattle.table_rules.specs.ColumnDesc.{noColumn}
 use Rattle.table_rules.specs.declared.Binding.{Binding}
 use Rattle.table_rules.specs.declared.Description.{Description}
 use Rattle.table_rules.specs.Table.{describedAs, columnIn, bindingIn}
@@ -241,21 +242,23 @@ module _ (y : List ℕ) (s : Staged) (r : Request) where
 
 -- ---- `answer`
 module _ (r : Request) (s : Staged) (x : Located) where
-  pub answer-refused : {p : Plan} → p ≡ noPlan → (s .refused .number ≡ 0 → ⊥)
-      → record { refused = s .refused; size = 0; plan = p; first = 0; count = 0; looks = 0; entries = 0 } ≡ answerWith r s x
+  pub answer-refused : {p : Plan} {c : Column} → p ≡ noPlan → c ≡ noColumn → (s .refused .number ≡ 0 → ⊥)
+      → record { refused = s .refused; size = 0; plan = p; column = c; first = 0; count = 0; looks = 0; entries = 0 } ≡ answerWith r s x
   unfolding answered
-  answer-refused e n = rw (ne-eqb (s .refused .number) 0 n, e)
+  answer-refused e i n = rw (ne-eqb (s .refused .number) 0 n, e, i)
 
-  pub answer-cell : {p : Plan} → s .refused .number ≡ 0 → r .cell ≡ true → p ≡ cond (r .column) (s .plan) noPlan
-      → record { refused = noRefusal; size = s .plan .size; plan = p; first = x .first; count = s .plan .bits; looks = x .looks; entries = x .entries }
+  pub answer-cell : {p : Plan} {c : Column} → s .refused .number ≡ 0 → r .cell ≡ true → p ≡ cond (r .column) (s .plan) noPlan
+      → c ≡ cond (r .column) (s .column) noColumn
+      → record { refused = noRefusal; size = s .plan .size; plan = p; column = c; first = x .first; count = s .plan .bits; looks = x .looks; entries = x .entries }
       ≡ answerWith r s x
   unfolding answered
-  answer-cell z k e = rw (eq-eqb (s .refused .number) 0 z, k, e)
+  answer-cell z k e i = rw (eq-eqb (s .refused .number) 0 z, k, e, i)
 
-  pub answer-none : {p : Plan} → s .refused .number ≡ 0 → r .cell ≡ false → p ≡ cond (r .column) (s .plan) noPlan
-      → record { refused = noRefusal; size = s .plan .size; plan = p; first = 0; count = 0; looks = 0; entries = 0 } ≡ answerWith r s x
+  pub answer-none : {p : Plan} {c : Column} → s .refused .number ≡ 0 → r .cell ≡ false → p ≡ cond (r .column) (s .plan) noPlan
+      → c ≡ cond (r .column) (s .column) noColumn
+      → record { refused = noRefusal; size = s .plan .size; plan = p; column = c; first = 0; count = 0; looks = 0; entries = 0 } ≡ answerWith r s x
   unfolding answered
-  answer-none z k e = rw (eq-eqb (s .refused .number) 0 z, k, e)
+  answer-none z k e i = rw (eq-eqb (s .refused .number) 0 z, k, e, i)
 
 -- ---- the answer, by what the calls of `ask` give
 -- a refusal carries no bits and no looks, nor does a question that asks for no cell

@@ -5,17 +5,24 @@ use denote.Ref.{now, ptr}
 use lib.ListN.{length}
 use Rattle.bytes_at.proofs.Stepped.{free}
 use Rattle.lookup_rules.specs.declared.Asked.the-variants.{Position}
-use Rattle.lookup_rules.specs.Answers.{viewOf}
+use Rattle.lookup_rules.specs.Views.{viewOf, partOf}
+use Rattle.lookup_rules.proofs.Texts.{viewed}
 use Rattle.lookup.proofs.Begins.{begins}
 use Rattle.lookup.proofs.view.Statement.{statement}
 use Rattle.lookup.proofs.view.Tie as tie
 
 returns : tie.Need-returns
+unfolding partOf
 returns c =
-    let a = c .before .before .before .before .before .before .before .before .args in (
-      c .part-of .ensures .0 ∙ ap (viewOf _) (c .before .before .before .ask .ensures .0),
-      begins (ptr (a .file)) (now (a .table)) (now (a .file)) (length (now (a .room))) (a .row) (Position (a .position)) (c .before .before .before .ask .ensures .0) (c .part-of .ensures .1),
-      c .before .before .before .ask .ensures .1,
+    let a = c .before .before .before .before .before .before .before .before .args in
+    let asked = c .before .before .before .ask .ensures in
+    let e = c .part-of .ensures .0 ∙ ap (viewOf _) (asked .0) in (
+      (
+        e,
+        begins (ptr (a .file)) (now (a .table)) (now (a .file)) (length (now (a .room))) (a .row) (Position (a .position)) (asked .0) (c .part-of .ensures .1),
+        asked .1,
+      ),
+      viewed _ _ _ _ _ e,
     )
 
 pub view-spec : {M : Type 1} → statement M

@@ -3,11 +3,15 @@ use borrow.Author.Needs.{needs}
 use mathlib.Core.Path.{ap}
 use Rattle.bytes_at.proofs.Stepped.{free}
 use Rattle.lookup_rules.specs.declared.Answer.{Answer}
+use Rattle.lookup_rules.proofs.Texts.{told}
 use Rattle.lookup.proofs.view_refusal.Statement.{statement}
 use Rattle.lookup.proofs.view_refusal.Tie as tie
 
 returns : tie.Need-returns
-returns c = (ap (λ (a : Answer). a .refused) (c .before .before .before .ask .ensures .0), c .before .before .before .ask .ensures .1)
+returns c =
+    let asked = c .before .before .before .ask .ensures in
+    let e = ap (λ (a : Answer). a .refused) (asked .0) in
+    ((e, asked .1), told _ _ _ _ _ e)
 
 pub view-refusal-spec : {M : Type 1} → statement M
 view-refusal-spec = tie.close (tie.spec free (λ c. search needs) returns)

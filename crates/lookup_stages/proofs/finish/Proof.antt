@@ -8,7 +8,7 @@ use Rattle.lookup_stages.proofs.finish.Tie as tie
 returns : tie.Need-returns
 unfolding stagesAfter
 returns c = (
-  via _ (c .before .before .before .before .before .before .before .before .plan-for .ensures .0)
+  via _ (c .before .before .before .before .before .before .before .before .before .plan-for .ensures .0)
       (via _ (c .before .before .before .before .before .fresh .ensures)
       (via _ (c .before .before .before .before .stage .ensures)
       (via _ (c .before .before .before .below .ensures)
@@ -16,7 +16,7 @@ returns c = (
       (via _ (c .before .seen .ensures)
       (via _ (c .stage3 .ensures)
       refl)))))),
-  c .before .before .before .before .before .before .before .before .plan-for .ensures .1,
+  c .before .before .before .before .before .before .before .before .before .plan-for .ensures .1,
 )
 
 pub finish-spec : {M : Type 1} → statement M

@@ -9,8 +9,11 @@ answer-spec =
     tie.close
     (tie.spec
     free
-    (λ c. answer-refused _ _ _ (c .no-plan .ensures) (c .before .if1 .taken))
     free
-    (λ c. answer-cell _ _ _ (c .before .before .before .if1 .left) (c .before .if2 .taken) (c .told .ensures))
+    (λ c. answer-refused _ _ _ (c .before .no-plan .ensures) (c .no-column .ensures) (c .before .before .if1 .taken))
     free
-    (λ c. answer-none _ _ _ (c .before .before .before .if1 .left) (c .before .if2 .left) (c .told2 .ensures)))
+    free
+    (λ c. answer-cell _ _ _ (c .before .before .before .before .before .if1 .left) (c .before .before .if2 .taken) (c .before .told .ensures) (c .told-column .ensures))
+    free
+    free
+    (λ c. answer-none _ _ _ (c .before .before .before .before .before .if1 .left) (c .before .before .if2 .left) (c .before .told2 .ensures) (c .told-column2 .ensures)))

@@ -1,0 +1,23 @@
+-- `lookup::padded_view` meets its contract.
+use borrow.Author.Needs.{needs}
+use mathlib.Core.Path.{ap, _∙_}
+use denote.Ref.{now, ptr}
+use lib.ListN.{length}
+use Rattle.bytes_at.proofs.Stepped.{free}
+use Rattle.lookup_rules.specs.declared.Asked.the-variants.{Position}
+use Rattle.lookup_rules.specs.Views.{paddedOf, partOf}
+use Rattle.lookup.proofs.Begins.{begins}
+use Rattle.lookup.proofs.padded_view.Statement.{statement}
+use Rattle.lookup.proofs.padded_view.Tie as tie
+
+returns : tie.Need-returns
+unfolding partOf
+returns c =
+    let a = c .before .before .before .before .before .before .before .before .args in (
+      c .part-of .ensures .0 ∙ ap (paddedOf _) (c .before .before .before .ask .ensures .0),
+      begins (ptr (a .file)) (now (a .table)) (now (a .file)) (length (now (a .room))) (a .row) (Position (a .position)) (c .before .before .before .ask .ensures .0) (c .part-of .ensures .1),
+      c .before .before .before .ask .ensures .1,
+    )
+
+pub padded-view-spec : {M : Type 1} → statement M
+padded-view-spec = tie.close (tie.spec free free (λ c. search needs) returns)
