@@ -45,16 +45,19 @@ expect() {
 
 expect 0 "no difference" --min 12000 --each 1..8 --bytes table,info tables 1 12000 , large 1 20 , bad -- "$model"
 expect 0 "no difference" --min 16000 prefixes -- "$model"
-expect 0 "no difference" --min 13000 --each 1..7 --bytes table,file,text,little-file,little-text fields -- "$model"
-expect 0 "no difference" --min 18000 torn -- "$model"
+expect 0 "no difference" --min 13500 --each 1..7 --bytes table,file,text,little-file,little-text fields -- "$model"
+expect 0 "no difference" --min 19500 torn -- "$model"
 expect 0 "no difference" --min 108000 types , types 1 1000 -- "$model"
-expect 0 "no difference" --min 10000 --each 1..14 --bytes file,text,little-file,little-text standard 1 10000 -- "$model"
+expect 0 "no difference" --min 10000 --each 1..14 --trimmed 10 --bytes file,text,little-file,little-text \
+    standard 1 10000 -- "$model"
 expect 0 "no difference" --min 10000 --each 1..12 --each-of place1:1..11 --bytes file,little-file \
     incremental 1 10000 -- "$model"
-expect 0 "no difference" --min 10000 --each 1..14 small-file -- "$model"
-expect 0 "no difference" --min 15000 looks -- "$model"
+expect 0 "no difference" --min 11000 --each 1..14 small-file -- "$model"
+expect 0 "no difference" --min 16900 looks -- "$model"
 expect 0 "no difference" --min 16000 rows -- "$model"
 expect 0 "no difference" --min 7900 --each-of place1:1..11 one-bucket -- "$model"
+expect 0 "no difference" --min 14800 --each-of view:1..11 --each-of view:13..14 --each-of viewplan:1..14 \
+    --each-of padded:1..11 --each-of padded:13..14 --each-of paddedplan:1..14 --trimmed 350 texts -- "$model"
 expect 0 "no difference" --min 10 files-large 1 10 -- "$model"
 
 expect 1 "difference at request" tables 1 3000 -- sh -c "'$model' | sed 's/^refused 7/refused 1/'"
@@ -98,6 +101,17 @@ for change in 's/^refused 9 0 /refused 11 0 /' 's/^refused 1 [0-9]+ /refused 1 0
     "s/$placed 00/\1 a5/" "s/$placed /\1 0 /" 's/^refused 8 0 /ok 0 96 /' 's/^refused 10 0 /refused 9 0 /'; do
     expect 1 "difference at request" one-bucket -- sh -c "'$model' | sed -E '$change'"
 done
+# Views: all padded, none padded, by plan or by position alone; one zero more, an empty one refused, or at the file's start; a
+# place with the text's bits.
+for change in 's/^view/padded/' 's/^padded/view/' 's/^viewplan/paddedplan/' 's/^paddedplan/viewplan/' 's/^view /padded /' \
+    's/^padded /view /'; do
+    expect 1 "difference at request" texts -- sh -c "sed '$change' | '$model'"
+done
+for change in 's/^(ok [0-9]+) 4 /\1 5 /' 's/^ok [0-9]+ 0 /refused 9 0 /' 's/^ok [0-9]+ 0 /ok 0 0 /' \
+    's/^(ok [0-9]+) 64 ([0-9]+) /\1 32 \2 /'; do
+    expect 1 "difference at request" texts -- sh -c "'$model' | sed -E '$change'"
+done
+expect 1 "difference at request" standard 1 2000 -- sh -c "sed 's/^viewplan/paddedplan/' | '$model'"
 # The byte: one more, 0 in its place, not there, in a room's place, and in an answer that is not refused; not in a listing.
 for change in 's/^(refused . [0-9]*)3( |$)/\14\2/' 's/^(refused .) [0-9]+/\1 0/' 's/^(refused .) [0-9]+/\1/' \
     's/^(refused .) [0-9]+ [0-9a-f-]+$/\1 0/' 's/^ok SSM/ok 0 SSM/' 's/^(726566757365642...)20.*0a$/\10a/'; do
@@ -120,6 +134,9 @@ expect 1 "does not start" tables 1 100 -- "$scratch/none"
 expect 1 "are needed" --min 101 tables 1 100 -- "$model"
 expect 1 "did not occur: 9" --each 1..9 tables 1 3000 -- "$model"
 expect 1 "did not occur with place1: 12, 13" --each-of place1:11..13 one-bucket -- "$model"
+expect 1 "did not occur with padded: 12" --each-of padded:11..14 texts -- "$model"
+expect 1 "only 0 answers of view were shorter, 1 are needed" --trimmed 1 small-file -- "$model"
+expect 1 "answers of view were empty, 1000 are needed" --trimmed 1000 texts -- "$model"
 expect 1 "with a byte of the text: 1, 2, 3, 4, 6, 7" --bytes table,text tables 1 3000 -- "$model"
 expect 1 "with a byte of the file: 2, 3, 5, 6" --bytes file torn -- "$model"
 expect 2 "usage" tables -- "$model"
@@ -129,6 +146,9 @@ ends_with 0 ../campaign 5 1234 -- "$model"
 says "^1234 requests compared, no difference"
 says "^elementbits *24 "
 says "^place1 "
+says "^padded "
+says "^paddedplan "
+says "^view, shorter "
 for count in 1 2 5 49 50 99; do
     ends_with 0 ../campaign 5 "$count" -- "$model"
     says "^$count requests compared, no difference"
@@ -149,7 +169,7 @@ for set in tables types standard incremental; do
     "$bin/requests" "$set" 1 200 >"$scratch/requests"
     "$bin/requests" "$set" 1 200 | cmp - "$scratch/requests"
 done
-for set in fields torn looks rows one-bucket; do
+for set in fields torn looks rows one-bucket texts; do
     "$bin/requests" "$set" >"$scratch/requests"
     "$bin/requests" "$set" | cmp - "$scratch/requests"
 done

@@ -61,6 +61,7 @@ fn run(options: &Options) -> Result<(), String> {
     for (question, each) in &options.each_of {
         tally.check_question(question, each.clone())?;
     }
+    tally.check_trimmed(options.trimmed)?;
     tally.check(options.min, options.each.clone(), &options.bytes)
 }
 

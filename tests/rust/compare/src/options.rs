@@ -13,6 +13,9 @@ pub struct Options {
     pub each: RangeInclusive<usize>,
     /// The same of one question, by its word.
     pub each_of: Vec<(String, RangeInclusive<usize>)>,
+    /// The least number of views that are shorter than their cell, and of empty
+    /// ones, by position and by plan.
+    pub trimmed: u64,
     /// Where each refusal number that can blame a field there must do so.
     pub bytes: Vec<Part>,
     /// Where the first request with a difference goes.
@@ -33,13 +36,16 @@ Gives the sets' request lines to COMMAND, one a line, and compares its answers,
 one a line, with the model's. Prints how often each question was accepted and
 refused with each number, and how often each number had a byte above 0, in
 table.dat, in the object of a DMInfo, in a manager's file or in index text; in
-the last two apart for little endian tables. Fails at the first difference, and
-also if COMMAND gives too few or too many answers or ends with an error.
+the last two apart for little endian tables; and how many views were shorter than
+their cell, and how many empty. Fails at the first difference, and also if COMMAND
+gives too few or too many answers or ends with an error.
 
   --min TOTAL      fail if there are fewer requests
   --each FROM..TO  fail if one of these refusal numbers does not occur
   --each-of QUESTION:FROM..TO
                    the same of one question; may be given for several
+  --trimmed COUNT  fail if fewer views are shorter than their cell, or empty, by
+                   position or by plan
   --bytes PART[,PART]..
                    fail if a refusal number does not occur with a byte above 0
                    in this part, though it can: table, info, file, text,
@@ -62,6 +68,7 @@ impl Options {
             min: 0,
             each: RangeInclusive::new(1, 0),
             each_of: Vec::new(),
+            trimmed: 0,
             bytes: Vec::new(),
             save: PathBuf::from("target/tests/difference.txt"),
             replay: None,
@@ -82,6 +89,9 @@ impl Options {
                 "--each" => options.each = range(value).ok_or(format!("no range: {value}"))?,
                 "--each-of" => {
                     options.each_of.push(of_question(value).ok_or(format!("no range: {value}"))?)
+                }
+                "--trimmed" => {
+                    options.trimmed = value.parse().map_err(|_| format!("no number: {value}"))?
                 }
                 "--bytes" => options.bytes = parts(value).ok_or(format!("no parts: {value}"))?,
                 "--save" => options.save = PathBuf::from(value),
@@ -174,6 +184,14 @@ mod tests {
     }
 
     #[test]
+    fn trimmed_views() {
+        let options = parse("--trimmed 20 texts, texts -- cat").unwrap();
+        assert_eq!((options.trimmed, options.sets), (20, vec![Set::Texts, Set::Texts]));
+        assert_eq!(parse("texts -- cat").unwrap().trimmed, 0);
+        assert!(usage().contains("\n  texts "));
+    }
+
+    #[test]
     fn faulty_lines() {
         for line in [
             "prefixes",
@@ -197,6 +215,9 @@ mod tests {
             "looks 1 2 -- cat",
             "rows 1 -- cat",
             "one-bucket 1 2 -- cat",
+            "texts 1 2 -- cat",
+            "--trimmed texts -- cat",
+            "--trimmed x texts -- cat",
         ] {
             assert!(parse(line).is_err(), "{line}");
         }

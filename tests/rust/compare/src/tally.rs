@@ -15,8 +15,14 @@ pub struct Tally {
     /// By what the byte counts in: how often each refusal number had one.
     /// Byte 0, which may be a field's or none, does not count.
     bytes: BTreeMap<Part, [u64; NUMBERS]>,
+    /// By question word: how many views were shorter than their cell, and how many
+    /// of these were empty.
+    trimmed: BTreeMap<&'static str, [u64; 2]>,
     no_requests: u64,
 }
+
+/// The words of views, and of the padded views of the same cells.
+const VIEWS: [(&str, &str); 2] = [("view", "padded"), ("viewplan", "paddedplan")];
 
 impl Tally {
     pub fn add(&mut self, request: &str, answer: &str) {
@@ -33,6 +39,14 @@ impl Tally {
         counts[number] += 1;
         if byte > 0 {
             self.bytes.entry(Part::of(request, byte)).or_insert([0; NUMBERS])[number] += 1;
+        }
+        let view = VIEWS.into_iter().find(|(word, _)| *word == question && number == 0);
+        if let Some((word, padded)) = view {
+            let cell = model::answer(&request.replacen(word, padded, 1));
+            let [length, cell] = [answer, &cell].map(byte_length);
+            let counts = self.trimmed.entry(word).or_default();
+            counts[0] += u64::from(length < cell);
+            counts[1] += u64::from(length == 0);
         }
     }
 
@@ -58,6 +72,22 @@ impl Tally {
         let counts = self.questions.get(question).copied().unwrap_or_default();
         let missing = each.filter(|number| counts[*number] == 0);
         none(missing, &format!("refusal numbers that did not occur with {question}"))
+    }
+
+    /// Fails if fewer views were shorter than their cell, or empty, by position or
+    /// by plan.
+    pub fn check_trimmed(&self, least: u64) -> Result<(), String> {
+        for (word, _) in VIEWS {
+            let counts = self.trimmed.get(word).copied().unwrap_or_default();
+            if let Some((count, what)) =
+                counts.into_iter().zip(["shorter", "empty"]).find(|(count, _)| *count < least)
+            {
+                return Err(format!(
+                    "only {count} answers of {word} were {what}, {least} are needed"
+                ));
+            }
+        }
+        Ok(())
     }
 
     /// Fails if there were too few requests, or a refusal number is missing, at
@@ -108,6 +138,12 @@ fn refusal(question: &str, answer: &str) -> [usize; 2] {
     })
 }
 
+/// The length of an accepted view.
+fn byte_length(answer: &str) -> u64 {
+    let length = answer.split(' ').nth(2).and_then(|length| length.parse().ok());
+    length.expect("a view tells start and length")
+}
+
 impl fmt::Display for Tally {
     fn fmt(&self, out: &mut fmt::Formatter<'_>) -> fmt::Result {
         let last = (1..NUMBERS).rev().find(|number| self.occurrences(*number) > 0).unwrap_or(0);
@@ -118,6 +154,10 @@ impl fmt::Display for Tally {
         }
         for (part, counts) in &self.bytes {
             line(out, &format!("byte of {}", part.name()), "", &counts[1..=last])?;
+        }
+        for (word, [shorter, empty]) in &self.trimmed {
+            line(out, &format!("{word}, shorter"), shorter, &[0; 0])?;
+            line(out, &format!("{word}, empty"), empty, &[0; 0])?;
         }
         if self.no_requests > 0 {
             line(out, "no request", self.no_requests, &[0; 0])?;
@@ -167,6 +207,40 @@ mod tests {
         assert!(tally.check_question("column", 14..=14).is_err());
         let missing = tally.check_question("place1", 8..=9).unwrap_err();
         assert!(missing.ends_with("with place1: 8, 9"), "{missing}");
+    }
+
+    #[test]
+    fn trimmed_views_are_counted() {
+        let subject = writer::samples::texts_file();
+        let files =
+            [subject.table.encode(), subject.file.encode()].map(|bytes| hex::encode(&bytes));
+        let plan = subject.file.plan(&subject.table, 1).map(|number| number.to_string()).join(",");
+        let mut tally = Tally::default();
+        // Of NAME shorter, whole, empty and shorter ones; a Bool; an Int.
+        for (word, row, column) in [
+            ("view", 0, "1"),
+            ("view", 1, "1"),
+            ("view", 2, "1"),
+            ("view", 3, "1"),
+            ("view", 0, "3"),
+            ("view", 0, "0"),
+            ("padded", 0, "1"),
+            ("viewplan", 0, &plan),
+            ("paddedplan", 2, &plan),
+        ] {
+            let request = format!("{word} {} {row} {column} 134", files.join(" "));
+            let answer = model::answer(&request);
+            tally.add(&request, &answer);
+        }
+        assert_eq!(tally.trimmed, BTreeMap::from([("view", [3, 1]), ("viewplan", [1, 0])]));
+        assert!(tally.to_string().contains("\nview, shorter             3\nview, empty "));
+        let missing = tally.check_trimmed(1).unwrap_err();
+        assert_eq!(missing, "only 0 answers of viewplan were empty, 1 are needed");
+        let request = format!("viewplan {} 6 {plan} 134", files.join(" "));
+        tally.add(&request, &model::answer(&request));
+        assert!(tally.check_trimmed(1).is_ok());
+        assert!(tally.check_trimmed(2).is_err());
+        assert!(tally.check_trimmed(0).is_ok() && Tally::default().check_trimmed(0).is_ok());
     }
 
     /// The answer of the model to a question about a sample after a change.

@@ -27,7 +27,10 @@ pub use data_type::DataType;
 pub use element_bits::element_bits;
 pub use listing::listing;
 pub use question::{InBucket, Placed, Plan};
-pub use question::{check, place, place_by_plan, place_in_bucket, plan, view, view_by_plan};
+pub use question::{
+    check, padded_view, padded_view_by_plan, place, place_by_plan, place_in_bucket, plan, view,
+    view_by_plan,
+};
 pub use refusal::Refusal;
 pub use request::answer;
 pub use table::{Column, Description, Kind, Manager, column, describe};

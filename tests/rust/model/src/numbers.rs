@@ -129,7 +129,8 @@ pub fn place_in_bucket(
     Ok([first_bit, bit_count, bucket_size, NO_BYTE])
 }
 
-/// Start and length, in bytes, of the part of the file that holds a cell.
+/// Start and length, in bytes, of the part of the file that holds a cell; of a
+/// String scalar with a maximum, only of the text before its first zero byte.
 pub fn view(
     table: &[u8],
     file: &[u8],
@@ -149,6 +150,28 @@ pub fn view_planned(
     room: &mut [u8],
 ) -> Result<[u64; 3], Refusal> {
     question::view_range_by_plan(table, file, row, &Plan::of(plan), room).map(start_and_length)
+}
+
+/// Start and length, in bytes, of the part of the file that holds a whole cell.
+pub fn padded_view(
+    table: &[u8],
+    file: &[u8],
+    row: u64,
+    position: u64,
+    room: &mut [u8],
+) -> Result<[u64; 3], Refusal> {
+    question::padded_range(table, file, row, position, room).map(start_and_length)
+}
+
+/// The same for the plan's column.
+pub fn padded_view_planned(
+    table: &[u8],
+    file: &[u8],
+    row: u64,
+    plan: [u64; 9],
+    room: &mut [u8],
+) -> Result<[u64; 3], Refusal> {
+    question::padded_range_by_plan(table, file, row, &Plan::of(plan), room).map(start_and_length)
 }
 
 /// The bits of an element of the type with this number, whose 64 bits are taken

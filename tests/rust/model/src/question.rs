@@ -1,5 +1,5 @@
-//! The questions File check, Plan, Place, Place in one bucket and View: RULES.md
-//! 7.
+//! The questions File check, Plan, Place, Place in one bucket, View and Padded
+//! view: RULES.md 7.
 //!
 //! Each is lent an index room. After a refusal it is all zero, and for
 //! IncrementalStMan always; after acceptance in StandardStMan it holds the
@@ -162,7 +162,8 @@ pub fn place_in_bucket(
     Ok(InBucket { first_bit, bit_count, bucket_size })
 }
 
-/// The part of the file that holds a cell.
+/// The part of the file that holds a cell; of a String scalar with a maximum, only
+/// the text before its first zero byte.
 pub fn view<'a>(
     table: &[u8],
     file: &'a [u8],
@@ -184,6 +185,28 @@ pub fn view_by_plan<'a>(
     Ok(&file[view_range_by_plan(table, file, row, plan, room)?])
 }
 
+/// The part of the file that holds a whole cell.
+pub fn padded_view<'a>(
+    table: &[u8],
+    file: &'a [u8],
+    row: u64,
+    position: u64,
+    room: &mut [u8],
+) -> Result<&'a [u8], Refusal> {
+    Ok(&file[padded_range(table, file, row, position, room)?])
+}
+
+/// The same for the plan's column, if the plan is the one that the files give.
+pub fn padded_view_by_plan<'a>(
+    table: &[u8],
+    file: &'a [u8],
+    row: u64,
+    plan: &Plan,
+    room: &mut [u8],
+) -> Result<&'a [u8], Refusal> {
+    Ok(&file[padded_range_by_plan(table, file, row, plan, room)?])
+}
+
 /// Where the part that [`view`] gives stands in the file.
 pub(crate) fn view_range(
     table: &[u8],
@@ -192,7 +215,7 @@ pub(crate) fn view_range(
     position: u64,
     room: &mut [u8],
 ) -> Result<Range<usize>, Refusal> {
-    ask(table, file, position, room, |asked| asked.view(row))
+    ask(table, file, position, room, |asked| asked.view(file, row))
 }
 
 /// Where the part that [`view_by_plan`] gives stands in the file.
@@ -205,7 +228,32 @@ pub(crate) fn view_range_by_plan(
 ) -> Result<Range<usize>, Refusal> {
     ask(table, file, plan.position, room, |asked| {
         asked.expect_plan(plan)?;
-        asked.view(row)
+        asked.view(file, row)
+    })
+}
+
+/// Where the part that [`padded_view`] gives stands in the file.
+pub(crate) fn padded_range(
+    table: &[u8],
+    file: &[u8],
+    row: u64,
+    position: u64,
+    room: &mut [u8],
+) -> Result<Range<usize>, Refusal> {
+    ask(table, file, position, room, |asked| asked.padded_view(row))
+}
+
+/// Where the part that [`padded_view_by_plan`] gives stands in the file.
+pub(crate) fn padded_range_by_plan(
+    table: &[u8],
+    file: &[u8],
+    row: u64,
+    plan: &Plan,
+    room: &mut [u8],
+) -> Result<Range<usize>, Refusal> {
+    ask(table, file, plan.position, room, |asked| {
+        asked.expect_plan(plan)?;
+        asked.padded_view(row)
     })
 }
 
@@ -272,6 +320,13 @@ impl<'a> Target<'a> {
             Kind::Incremental => bits.next_multiple_of(8),
             _ => bits,
         }
+    }
+
+    /// Whether a cell may have padding: a String scalar with a maximum. In
+    /// IncrementalStMan no String has a place.
+    fn is_padded(&self) -> bool {
+        let column = self.column;
+        column.data_type == DataType::String && !column.is_array && column.string_maximum > 0
     }
 
     fn expect_row(&self, row: u64) -> Result<(), Refusal> {
@@ -360,7 +415,18 @@ impl Asked<'_> {
         Ok(Placed { first_bit, bit_count: self.target.cell_bits(), looks, entries })
     }
 
-    fn view(&self, row: u64) -> Result<Range<usize>, Refusal> {
+    /// The bytes of a cell; of a text with padding, those before the padding.
+    fn view(&self, file: &[u8], row: u64) -> Result<Range<usize>, Refusal> {
+        let cell = self.padded_view(row)?;
+        if !self.target.is_padded() {
+            return Ok(cell);
+        }
+        let length = text_length(&file[cell.clone()]);
+        Ok(cell.start..cell.start + length)
+    }
+
+    /// The bytes of a whole cell.
+    fn padded_view(&self, row: u64) -> Result<Range<usize>, Refusal> {
         let Placed { first_bit, bit_count, .. } = self.place(row)?;
         if matches!(self.file, File::Standard(_)) && self.target.column.data_type == DataType::Bool
         {
@@ -369,4 +435,10 @@ impl Asked<'_> {
         let start = (first_bit / 8) as usize;
         Ok(start..start + (bit_count / 8) as usize)
     }
+}
+
+/// How many bytes of a cell stand before its first zero byte; all of them if
+/// there is none.
+fn text_length(cell: &[u8]) -> usize {
+    cell.iter().take_while(|byte| **byte != 0).count()
 }

@@ -67,6 +67,18 @@ fn answer_request(line: &str) -> Option<String> {
             let answer = question::view_range_by_plan(&table, &file, row, &plan, &mut room);
             room_line(answer.map(range_text), &room)
         }
+        ["padded", table, file, row, position, room] => {
+            let (table, file) = (hex::decode(table)?, hex::decode(file)?);
+            let (row, position, mut room) = (number(row)?, number(position)?, lent(room)?);
+            let answer = question::padded_range(&table, &file, row, position, &mut room);
+            room_line(answer.map(range_text), &room)
+        }
+        ["paddedplan", table, file, row, plan, room] => {
+            let (table, file) = (hex::decode(table)?, hex::decode(file)?);
+            let (row, plan, mut room) = (number(row)?, plan_of(plan)?, lent(room)?);
+            let answer = question::padded_range_by_plan(&table, &file, row, &plan, &mut room);
+            room_line(answer.map(range_text), &room)
+        }
         ["elementbits", data_type] => format!("ok {}", element_bits(signed(data_type)?)),
         _ => return None,
     })

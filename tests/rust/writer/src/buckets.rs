@@ -147,6 +147,8 @@ pub struct Buckets {
     pub first_free: Option<i32>,
     /// The seed of all bytes that no field stands in; zeros if there is none.
     pub filler: Option<u64>,
+    /// Cells, over which all others are written.
+    pub cells: Vec<Patch>,
     /// Bytes that are written last.
     pub patches: Vec<Patch>,
     /// Bytes after the file's last part.
@@ -171,6 +173,7 @@ impl Buckets {
             free_count: None,
             first_free: None,
             filler: None,
+            cells: Vec::new(),
             patches: Vec::new(),
             trailing: Vec::new(),
             torn_at: None,
@@ -204,13 +207,16 @@ impl Buckets {
         self.patch(bucket, 0, &link.to_be_bytes());
     }
 
-    /// The file's first bytes and its buckets, with the free list.
+    /// The file's first bytes and its buckets, with cells and the free list.
     pub fn blank(&self) -> Vec<u8> {
         let length = self.start(self.count);
         let mut bytes = match self.filler {
             Some(seed) => Rng::new(seed, 0).bytes(length),
             None => vec![0; length],
         };
+        for cells in &self.cells {
+            self.write(&mut bytes, cells.bucket, cells.offset, &cells.bytes);
+        }
         for (index, bucket) in self.free.iter().enumerate() {
             let next = self.free.get(index + 1).map_or(-1, |next| *next as i32);
             self.write(&mut bytes, *bucket, 0, &next.to_be_bytes());

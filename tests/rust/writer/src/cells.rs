@@ -1,4 +1,4 @@
-//! The cells of a column: RULES.md 4.5.
+//! The cells of a column: RULES.md 4.5 and 7.10.
 
 use crate::table::{BOOL, Column, STRING, TYPES};
 
@@ -31,4 +31,10 @@ pub fn bits(column: &Column) -> u64 {
 /// The whole bytes that `rows` cells take when they are stored together.
 pub fn extent(column: &Column, rows: u32) -> u64 {
     (u64::from(rows) * bits(column)).div_ceil(8)
+}
+
+/// Whether a cell is a text with padding behind it: a String scalar with a
+/// maximum (RULES.md 7.10).
+pub fn has_padding(column: &Column) -> bool {
+    column.data_type == STRING.number && !column.is_array() && column.string_maximum > 0
 }

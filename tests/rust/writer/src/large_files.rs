@@ -1,15 +1,17 @@
 //! Files at the limits of the Ranges (RULES.md 8.2): 4,096 buckets, an index text of
-//! 65,536 bytes, 64 columns, 16 sets, buckets of 1,048,576 bytes; files with all
-//! of these buckets, which have more than 4 GiB; and more rows than 32 bits can
+//! 65,536 bytes, 64 columns, 16 sets, buckets of 1,048,576 bytes, texts of 65,536
+//! bytes; files with all of these buckets, which have more than 4 GiB; and more rows than 32 bits can
 //! count.
 
 use crate::buckets::{Buckets, Subject};
 use crate::cells;
+use crate::contents::{self, Content};
 use crate::generate;
 use crate::incremental::{self, DataBucket, IncrementalFile, Values};
 use crate::lean;
 use crate::questions::Asked;
 use crate::rng::Rng;
+use crate::standard::generate::{Set, with_parts};
 use crate::standard::{self, FreeSpace, Index, LINKS, StandardFile};
 use crate::table::{BOOL, Column, DCOMPLEX, DOUBLE, INT, Manager, SHORT, STRING, Table, UCHAR};
 
@@ -17,12 +19,21 @@ const BUCKETS: u32 = 4096;
 const TEXT: usize = 65_536;
 const LARGEST: u32 = 1_048_576;
 
+/// Some question about such a case; about large texts, a view.
+pub fn question(rng: &mut Rng, number: u64) -> String {
+    let asked = case(rng, number);
+    if number % 10 == OF_TEXTS { asked.view_question(rng) } else { asked.question(rng) }
+}
+
+/// Which of ten cases has large texts.
+const OF_TEXTS: u64 = 6;
+
 /// A table and a large file; often with a fault.
 pub fn case(rng: &mut Rng, number: u64) -> Asked {
     match number % 10 {
         0 => Asked::new(&large_bucket(rng, number / 10)),
-        1..=6 => {
-            let mut subject = standard(rng);
+        number @ 1..=6 => {
+            let mut subject = if number == OF_TEXTS { large_texts(rng) } else { standard(rng) };
             if rng.chance(1, 2) {
                 (rng.pick(&standard::faults::faults()).apply)(rng, &mut subject);
             }
@@ -145,6 +156,23 @@ pub fn large_bucket(rng: &mut Rng, variant: u64) -> Subject<StandardFile> {
     Subject { table, number: 0, file }
 }
 
+/// StandardStMan: texts of up to 65,536 bytes, with padding and without.
+pub fn large_texts(rng: &mut Rng) -> Subject<StandardFile> {
+    let maximum = rng.pick(&[65_536, 65_535, 32_768, 300]);
+    let rows_per_bucket = rng.within(2..=3) as u32;
+    let columns = vec![
+        Column::scalar(STRING, "").string_maximum(maximum),
+        Column::scalar(UCHAR, "").string_maximum(maximum),
+        Column::scalar(STRING, "").string_maximum(rng.within(1..=40) as u32),
+    ];
+    let rows = rng.within(1..=2 * rows_per_bucket as usize) as u64;
+    let set = Set::new(rng, columns, rows_per_bucket);
+    let parts = lean::parts(rng, rows, rows_per_bucket.into());
+    let mut subject = with_parts(rng, rows, vec![(parts, set)]);
+    contents::put_some(rng, &mut subject);
+    subject
+}
+
 /// StandardStMan: a set of 4,095 entries, the most there can be, since the
 /// index needs a bucket; it is just large enough for the text. They hold one
 /// row to 100 of a bucket's 100.
@@ -202,7 +230,15 @@ pub fn standard_above_4_gib(endianness: u32) -> Subject<StandardFile> {
     let index = Index::new(rows_per_bucket, table.columns().len(), &entries);
     let buckets = Buckets::new("StandardStMan", 3, endianness, LARGEST, BUCKETS);
     let file = StandardFile::new(buckets, vec![INDEX_BUCKET], vec![index]);
-    of_manager_3(table, file)
+    let mut subject = of_manager_3(table, file);
+    // Texts with padding and without, and cells of all kinds.
+    let columns = subject.table.columns().iter();
+    let sizes: Vec<usize> = columns.map(|column| cells::bits(column) as usize / 8).collect();
+    contents::put(&mut subject, |position, row| {
+        let kind = contents::KINDS[(position + row as usize) % contents::KINDS.len()];
+        Content::new(kind, sizes[position], row as usize)
+    });
+    subject
 }
 
 /// StandardStMan above 4 GiB: a Bool in each of as many rows as a bucket may

@@ -3,7 +3,9 @@
 
 use crate::generate::{OTHER_KINDS, info_form, rows_form};
 use crate::rng::Rng;
-use crate::table::{BOOL, Column, Manager, Record, STRING, TYPES, Table};
+use crate::table::{
+    BOOL, Column, DOUBLE, INT, Manager, Record, SHORT, STRING, TYPES, Table, UCHAR,
+};
 
 /// A manager of this kind, its sequence number, and sometimes other managers
 /// before and after it.
@@ -58,6 +60,41 @@ pub fn column(rng: &mut Rng) -> Column {
             column.string_maximum(maximum(rng))
         }
     }
+}
+
+/// A String scalar with a maximum, or a column that is nearly one; without a name.
+pub fn text_column(rng: &mut Rng) -> Column {
+    let column = match rng.below(14) {
+        0..=7 => {
+            // Options, and which of the two dimensionalities, have no effect.
+            let options = if rng.chance(1, 4) { rng.below(8) as i32 } else { 0 };
+            let dimensionality = rng.pick(&[0, -1]);
+            Column { options, dimensionality, ..Column::scalar(STRING, "") }
+        }
+        8 => return Column::scalar(STRING, ""),
+        9 => {
+            let axes = axes(rng, 5);
+            Column::direct(STRING, "", &axes)
+        }
+        10 if rng.chance(1, 2) => Column::array(STRING, ""),
+        10 => {
+            let axes = axes(rng, 5);
+            Column::fixed(STRING, "", &axes)
+        }
+        _ => Column::scalar(rng.pick(&[UCHAR, SHORT, INT, DOUBLE]), ""),
+    };
+    column.string_maximum(text_maximum(rng))
+}
+
+/// A string maximum: often very small, seldom some hundreds.
+fn text_maximum(rng: &mut Rng) -> u32 {
+    (match rng.below(14) {
+        0 | 1 => 1,
+        2 | 3 => rng.pick(&[2, 3]),
+        4..=8 => rng.within(4..=12),
+        9..=12 => rng.within(4..=48),
+        _ => rng.within(49..=300),
+    }) as u32
 }
 
 /// A string maximum; none for most columns.

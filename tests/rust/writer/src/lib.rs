@@ -9,6 +9,7 @@
 pub mod bucket_faults;
 pub mod buckets;
 pub mod cells;
+pub mod contents;
 pub mod encode;
 pub mod faults;
 pub mod fields;
@@ -34,5 +35,6 @@ pub mod sets;
 pub mod small_file;
 pub mod standard;
 pub mod table;
+pub mod texts;
 pub mod torn;
 pub mod type_numbers;

@@ -11,7 +11,7 @@ use crate::questions::Asked;
 use crate::rng::Rng;
 use crate::standard::StandardFile;
 use crate::standard::generate::{Set, with_parts};
-use crate::table::{BOOL, Column, DOUBLE, INT, SHORT, Type, UCHAR};
+use crate::table::{BOOL, Column, DOUBLE, INT, SHORT, STRING, Type, UCHAR};
 
 const SEED: u64 = 2;
 
@@ -111,6 +111,9 @@ fn parts(rng: &mut Rng, rows: u64, count: usize) -> Vec<u64> {
 
 /// A column that keeps the buckets small.
 fn column(rng: &mut Rng, rows_per_bucket: u32) -> Column {
+    if rows_per_bucket <= 12 && rng.chance(1, 6) {
+        return Column::scalar(STRING, "").string_maximum(rng.within(1..=3) as u32);
+    }
     let types: &[Type] = match rows_per_bucket {
         0..=4 => &[BOOL, UCHAR, SHORT, INT, DOUBLE],
         5..=12 => &[BOOL, UCHAR, SHORT],
@@ -187,7 +190,9 @@ fn standard_lines(number: u64, subject: &Subject<StandardFile>) -> Vec<String> {
                 _ => lines.push(place),
             }
             match count % 16 {
+                0 => lines.push(asked.planned_cell("paddedplan", row, plan, room)),
                 4 => lines.push(asked.cell("view", row, position as u64, room)),
+                8 => lines.push(asked.cell("padded", row, position as u64, room)),
                 12 => lines.push(asked.planned_cell("viewplan", row, plan, room)),
                 _ => {}
             }

@@ -28,6 +28,8 @@ pub struct Asked {
     /// The positions of the manager's columns that have places, and of its
     /// others.
     pub own: [Vec<usize>; 2],
+    /// Of those that have places, the texts with padding.
+    pub texts: Vec<usize>,
     /// A plan for each column of the table.
     pub plans: Vec<[u64; 9]>,
     /// Plans with mistakes that are easily made.
@@ -53,8 +55,10 @@ impl Asked {
             })
             .collect();
         let own = subject.own_columns();
-        let (with_place, others) =
+        let (with_place, others): (Vec<usize>, Vec<usize>) =
             own.iter().partition(|position| file.has_place(&table.columns()[**position]));
+        let mut texts = with_place.clone();
+        texts.retain(|position| cells::has_padding(&table.columns()[*position]));
         Self {
             table: table.encode(),
             file: file.encode(),
@@ -64,6 +68,7 @@ impl Asked {
             rows: table.rows(),
             border_rows: file.border_rows(),
             own: [with_place, others],
+            texts,
             plans,
             wrong_plans,
             index_length: file.index_length(),
@@ -80,12 +85,12 @@ impl Asked {
         self.line("plan", &format!("{position} {room}"))
     }
 
-    /// Place, Place in one bucket or view, by their word.
+    /// Place, Place in one bucket, view or padded view, by their word.
     pub fn cell(&self, word: &str, row: u64, position: u64, room: usize) -> String {
         self.line(word, &format!("{row} {position} {room}"))
     }
 
-    /// Place or view by plan, by their word.
+    /// Place, view or padded view by plan, by their word.
     pub fn planned_cell(&self, word: &str, row: u64, plan: &[u64; 9], room: usize) -> String {
         let fields: Vec<String> = plan.iter().map(u64::to_string).collect();
         self.line(word, &format!("{row} {} {room}", fields.join(",")))
@@ -96,10 +101,10 @@ impl Asked {
     }
 
     /// One of the questions that check the file, each in its turn, about a
-    /// column that has places. Place in one bucket, which has none of
+    /// column that has places, a text if there is one. Place in one bucket, which has none of
     /// StandardStMan, is about rows of all buckets.
     pub fn in_turn(&self, turn: usize) -> String {
-        let (row, column) = (0, self.own[0][0]);
+        let (row, column) = (0, self.texts.first().copied().unwrap_or(self.own[0][0]));
         let (position, plan, room) = (column as u64, &self.plans[column], SAMPLE_ROOM);
         let every = if self.is_incremental { 7 } else { 101 };
         if turn % every == every - 1 {
@@ -108,13 +113,28 @@ impl Asked {
             let room = [0, 1, 7, room][turn % 4];
             return self.cell("place1", row.copied().unwrap_or(0), position, room);
         }
-        match turn % 6 {
+        match turn % 8 {
             0 => self.check(self.number.into(), room),
             1 => self.plan(position, room),
             2 => self.cell("place", row, position, room),
             3 => self.cell("view", row, position, room),
             4 => self.planned_cell("placeplan", row, plan, room),
-            _ => self.planned_cell("viewplan", row, plan, room),
+            5 => self.planned_cell("viewplan", row, plan, room),
+            6 => self.cell("padded", row, position, room),
+            _ => self.planned_cell("paddedplan", row, plan, room),
+        }
+    }
+
+    /// A view or padded view, by position or by plan.
+    pub fn view_question(&self, rng: &mut Rng) -> String {
+        let (row, position, room) = (self.some_row(rng), self.viewed_position(rng), self.room(rng));
+        match rng.below(4) {
+            0 => self.cell("view", row, position, room),
+            1 => self.cell("padded", row, position, room),
+            number => {
+                let word = ["viewplan", "paddedplan"][number - 2];
+                self.planned_cell(word, row, &self.some_plan(rng, position), room)
+            }
         }
     }
 
@@ -127,17 +147,27 @@ impl Asked {
         if !no_columns && rng.chance(in_one_bucket, 40) {
             return self.cell("place1", self.some_row(rng), self.some_position(rng), room);
         }
-        let word = if no_columns && rng.chance(3, 4) { 0 } else { rng.below(40) };
+        let word = if no_columns && rng.chance(3, 4) { 0 } else { rng.below(46) };
         match word {
             0..=8 => self.check(self.some_number(rng), room),
             9..=14 => self.plan(self.some_position(rng), room),
             15..=22 => self.cell("place", self.some_row(rng), self.some_position(rng), room),
-            23..=28 => self.cell("view", self.some_row(rng), self.some_position(rng), room),
+            23..=28 => self.cell("view", self.some_row(rng), self.viewed_position(rng), room),
             29..=33 => {
-                self.planned_cell("placeplan", self.some_row(rng), &self.some_plan(rng), room)
+                let position = self.some_position(rng);
+                let plan = self.some_plan(rng, position);
+                self.planned_cell("placeplan", self.some_row(rng), &plan, room)
             }
             34..=38 => {
-                self.planned_cell("viewplan", self.some_row(rng), &self.some_plan(rng), room)
+                let position = self.viewed_position(rng);
+                let plan = self.some_plan(rng, position);
+                self.planned_cell("viewplan", self.some_row(rng), &plan, room)
+            }
+            39..=41 => self.cell("padded", self.some_row(rng), self.viewed_position(rng), room),
+            42..=44 => {
+                let position = self.viewed_position(rng);
+                let plan = self.some_plan(rng, position);
+                self.planned_cell("paddedplan", self.some_row(rng), &plan, room)
             }
             _ => match rng.below(3) {
                 0 => format!("describe {}", hex(&self.table)),
@@ -187,6 +217,14 @@ impl Asked {
         }
     }
 
+    /// Often that of a text, if there is one.
+    fn viewed_position(&self, rng: &mut Rng) -> u64 {
+        if !self.texts.is_empty() && rng.chance(1, 2) {
+            return rng.pick(&self.texts) as u64;
+        }
+        self.some_position(rng)
+    }
+
     fn some_row(&self, rng: &mut Rng) -> u64 {
         let rows = self.rows;
         let row = match rng.below(3) {
@@ -208,9 +246,8 @@ impl Asked {
         }
     }
 
-    /// A fresh plan, or one that is stale in a field.
-    fn some_plan(&self, rng: &mut Rng) -> [u64; 9] {
-        let position = self.some_position(rng);
+    /// The fresh plan of a position, or one that is stale in a field.
+    fn some_plan(&self, rng: &mut Rng, position: u64) -> [u64; 9] {
         let Some(fresh) = self.plans.get(position as usize).filter(|plan| plan[0] == position)
         else {
             // No column: the other fields may be those of one.

@@ -418,6 +418,7 @@ fn row_lines(subject: &Subject<IncrementalFile>) -> Vec<String> {
         let plan = &asked.plans[position];
         lines.push(match turn % 5 {
             0 => asked.planned_cell("placeplan", row, plan, 0),
+            1 if turn % 2 == 0 => asked.cell("padded", row, position as u64, 1),
             1 => asked.cell("view", row, position as u64, 1),
             2 => asked.cell("place1", row, position as u64, 1),
             _ => asked.cell("place", row, position as u64, 0),

@@ -10,7 +10,7 @@ use crate::table::{
 };
 
 /// The sample files: a name and the bytes of its `table.dat`.
-pub fn all() -> [(&'static str, Vec<u8>); 7] {
+pub fn all() -> [(&'static str, Vec<u8>); 8] {
     [
         ("small", small().encode()),
         ("little", little().encode()),
@@ -19,6 +19,7 @@ pub fn all() -> [(&'static str, Vec<u8>); 7] {
         ("empty", Vec::new()),
         ("torn", torn()),
         ("survey", survey().encode()),
+        ("texts", texts().encode()),
     ]
 }
 
@@ -28,6 +29,7 @@ pub fn files(name: &str) -> Vec<(u32, Vec<u8>)> {
         "small" => vec![(0, small_file().file.encode())],
         "little" => vec![(0, little_file().file.encode())],
         "survey" => vec![(0, survey_file().file.encode())],
+        "texts" => vec![(0, texts_file().file.encode())],
         "arrays" => {
             vec![(0, arrays_standard().file.encode()), (1, arrays_incremental().file.encode())]
         }
@@ -147,7 +149,7 @@ pub fn arrays_standard() -> Subject<StandardFile> {
         put(&mut subject, "UVW", row, uvw.map(f64::to_le_bytes).as_flattened());
         let array = 16 + 24 * u64::from(row); // its place in the array file
         put(&mut subject, "WEIGHT", row, &array.to_le_bytes());
-        put(&mut subject, "OBSERVER", row, &short_string(b"observer"));
+        put(&mut subject, "OBSERVER", row, &short_string(b"observer", Order::Little));
         put(&mut subject, "STATION", row, format!("RT{:X}\0", antenna1).as_bytes());
         let schedule = heap.strings(&[format!("block {}", row / 8), format!("row {row}")]);
         put(&mut subject, "SCHEDULE", row, &schedule);
@@ -182,6 +184,50 @@ pub fn arrays_incremental() -> Subject<IncrementalFile> {
     buckets.free = vec![1];
     let file = IncrementalFile::new(buckets, vec![0, 12, 20], data);
     Subject { table: arrays(), number: 1, file }
+}
+
+/// The NAME cells of the texts sample, by row: padded; without a zero byte;
+/// empty; a zero in the middle; bytes that are not ASCII; a quote and a
+/// backslash; a zero first, and a text behind it.
+pub const NAMES: [&[u8; 8]; 7] = [
+    b"RA01\0\0\0\0",
+    b"PARKES64",
+    b"\0\0\0\0\0\0\0\0",
+    b"A\0B\0\0\0\0\0",
+    b"caf\xC3\xA9\0\0\0",
+    b"A\"B\\C\0\0\0",
+    b"\0OLD\0\0\0\0",
+];
+
+/// A small big endian table with texts: a String with a maximum, and one
+/// without.
+pub fn texts() -> Table {
+    let columns = vec![
+        Column::scalar(INT, "ANTENNA").at(0, 0).comment("ID of the antenna"),
+        Column::scalar(STRING, "NAME").at(0, 16).string_maximum(8).comment("Name of the antenna"),
+        Column::scalar(STRING, "STATION").at(0, 48).comment("Station name"),
+        Column::scalar(BOOL, "FLAG_ROW").at(0, 96).comment("Row flag"),
+    ];
+    Table::new(7, 1, columns, vec![Manager::new("StandardStMan", 0)])
+}
+
+/// Its StandardStMan file: four buckets of 128 bytes, four rows in bucket 0,
+/// three in bucket 1, the index in 2 and 3.
+pub fn texts_file() -> Subject<StandardFile> {
+    let table = texts();
+    let order = Order::of(table.endianness);
+    let buckets = Buckets::new("StandardStMan", 3, table.endianness, 128, 4);
+    let indices = vec![Index::new(4, 4, &[(3, 0), (6, 1)])];
+    let file = StandardFile::new(buckets, vec![2, 3], indices);
+    let mut subject = Subject { table, number: 0, file };
+    for (row, name) in (0..).zip(NAMES) {
+        put(&mut subject, "ANTENNA", row, &order.number(row));
+        put(&mut subject, "NAME", row, name);
+        let station = short_string(format!("PAD {}", row + 1).as_bytes(), order);
+        put(&mut subject, "STATION", row, &station);
+    }
+    put_bits(&mut subject, "FLAG_ROW", |row| vec![row == 2 || row == 6]);
+    subject
 }
 
 /// The rows of the survey, more than a uInt can count.
@@ -335,6 +381,7 @@ pub fn standard_files() -> Vec<Subject<StandardFile>> {
         small_file(),
         little_file(),
         arrays_standard(),
+        texts_file(),
         with_free_space(file_of_small(big)),
         with_free_space(file_of_small(little)),
         wide_small(small()),
@@ -392,10 +439,10 @@ fn put_bits(subject: &mut Subject<StandardFile>, name: &str, value: fn(u64) -> V
 }
 
 /// A String of at most 8 bytes: the bytes and the length.
-fn short_string(text: &[u8]) -> Vec<u8> {
+fn short_string(text: &[u8], order: Order) -> Vec<u8> {
     let mut cell = text.to_vec();
     cell.resize(8, 0);
-    cell.extend((text.len() as i32).to_le_bytes());
+    cell.extend(order.number(text.len() as u32));
     cell
 }
 

@@ -15,6 +15,7 @@ use crate::rows;
 use crate::samples;
 use crate::small_file;
 use crate::table::{BOOL, COMPLEX, Column, DCOMPLEX, INT, Manager, Record, Table};
+use crate::texts;
 use crate::torn;
 use crate::type_numbers;
 use std::ops::Range;
@@ -42,6 +43,8 @@ rows               row numbers of 64 bits: every mixture of versions, tables of 
                    rows than 32 bits can count, and their refused neighbours
 one-bucket         Place in one bucket: IncrementalStMan files of several buckets, good
                    and with faults in the row's bucket, in another one, and before
+texts              views and padded views: texts of all kinds with a maximum, and cells
+                   of other columns that hold zero bytes
 files-large [SEED COUNT]
                    files of 4,096 buckets, or with the largest buckets
 small-file         the small file of RULES.md 11, its cases and variants of them";
@@ -62,6 +65,7 @@ pub enum Set {
     Looks,
     Rows,
     OneBucket,
+    Texts,
     FilesLarge { seed: u64, count: u64 },
     SmallFile,
 }
@@ -94,6 +98,7 @@ impl Set {
             ["looks"] => Self::Looks,
             ["rows"] => Self::Rows,
             ["one-bucket"] => Self::OneBucket,
+            ["texts"] => Self::Texts,
             ["files-large"] => Self::FilesLarge { seed: 1, count: 60 },
             ["files-large", seed, count] => {
                 Self::FilesLarge { seed: number(seed)?, count: number(count)? }
@@ -160,9 +165,10 @@ impl Set {
             Self::Looks => Box::new(looks::lines()),
             Self::Rows => Box::new(rows::lines()),
             Self::OneBucket => Box::new(one_bucket::lines()),
+            Self::Texts => Box::new(texts::lines()),
             Self::FilesLarge { seed, count } => Box::new((0..count).map(move |number| {
                 let rng = &mut Rng::new(seed, number);
-                large_files::case(rng, number).question(rng)
+                large_files::question(rng, number)
             })),
             Self::SmallFile => Box::new(small_file::lines()),
         }
@@ -445,6 +451,24 @@ fn bad() -> Vec<String> {
         "placein - - 0 0 0",
         "view - - 0 0",
         "view - - 18446744073709551616 0 0",
+        "padded",
+        "padded - - 0 0",
+        "padded - - 0 0 0 0",
+        "padded - - 0 0 -",
+        "padded - - - 0 0",
+        "padded - - -1 0 0",
+        "padded - - 0 z 0",
+        "padded - 0 0 0 0",
+        "padded 0 - 0 0 0",
+        "padded - - 18446744073709551616 0 0",
+        "padded - - 0 18446744073709551616 0",
+        "padded - - 0 0 1048577",
+        "padded - - 0 0,0,0,0,0,0,0,0,0 0",
+        "Padded - - 0 0 0",
+        "paddedview - - 0 0 0",
+        "padded view - - 0 0 0",
+        "trimmed - - 0 0 0",
+        "text - - 0 0 0",
         "placeplan - - 0 0 0",
         "placeplan - - 0 0,0,0,0,0,0,0,0 0",
         "placeplan - - 0 0,0,0,0,0,0,0,0,0,0 0",
@@ -457,6 +481,16 @@ fn bad() -> Vec<String> {
         "viewplan - - 0 18446744073709551616,0,0,0,0,0,0,0,0 0",
         "viewplan - - 0 0,0,0,0,0,0,0,0,0",
         "viewplan - - 0 0,0,0,0,0,0,0,0,0 0 0",
+        "paddedplan",
+        "paddedplan - - 0 0 0",
+        "paddedplan - - 0 0,0,0,0,0,0,0,0 0",
+        "paddedplan - - 0 0,0,0,0,0,0,0,0,0,0 0",
+        "paddedplan - - 0 0;0;0;0;0;0;0;0;0 0",
+        "paddedplan - - 0 0,0,0,0,0,0,0,0,18446744073709551616 0",
+        "paddedplan - - 0 0,0,0,0,0,0,0,0,0",
+        "paddedplan - - 0 0,0,0,0,0,0,0,0,0 0 0",
+        "paddedplan - - 0 0,0,0,0,0,0,0,0,0 1048577",
+        "planpadded - - 0 0,0,0,0,0,0,0,0,0 0",
         "checkplan - 0 - 0",
         "elementbits",
         "elementbits 5 5",
@@ -497,6 +531,8 @@ fn bad() -> Vec<String> {
     lines.push(format!("place {good} {good} 0 0 1048577"));
     lines.push(format!("place1 {good} {good} 0 0 1048577"));
     lines.push(format!("place1 {good} {good} 0 0"));
+    lines.push(format!("padded {good} {good} 0 0 1048577"));
+    lines.push(format!("paddedplan {good} {good} 0 0 0"));
     lines.push(format!("elementbits {good}"));
     for digit in ["9", "1"] {
         let digits = digit.repeat(4096);

@@ -59,6 +59,8 @@ fn rooms(asked: &Asked) -> Vec<String> {
         lines.push(asked.cell("view", 5, TIME as u64, room));
         lines.push(asked.planned_cell("placeplan", 5, &asked.plans[TIME], room));
         lines.push(asked.planned_cell("viewplan", 5, &asked.plans[TIME], room));
+        lines.push(asked.cell("padded", 5, TIME as u64, room));
+        lines.push(asked.planned_cell("paddedplan", 5, &asked.plans[TIME], room));
     }
     lines.push(asked.check(0, 1_048_576)); // the longest room that is lent
     lines
@@ -72,16 +74,19 @@ fn cells(asked: &Asked) -> Vec<String> {
             let position = position as u64;
             lines.push(asked.cell("place", row, position, TEXT));
             lines.push(asked.cell("view", row, position, TEXT));
+            lines.push(asked.cell("padded", row, position, TEXT));
             let fresh = asked.plans.get(position as usize).copied().unwrap_or([position; 9]);
             lines.push(asked.planned_cell("placeplan", row, &fresh, TEXT));
             lines.push(asked.planned_cell("viewplan", row, &fresh, TEXT));
+            lines.push(asked.planned_cell("paddedplan", row, &fresh, TEXT));
         }
     }
     // Plans that are stale in each field, for a row that is there and one
     // that is not.
     for field in 0..9 {
         for value in [0, 1, 2, 7, 1 << 32, u64::MAX] {
-            for (word, row) in [("placeplan", 5), ("viewplan", 5), ("placeplan", 7)] {
+            let words = [("placeplan", 5), ("viewplan", 5), ("paddedplan", 5), ("placeplan", 7)];
+            for (word, row) in words {
                 let mut plan = asked.plans[FLAG];
                 plan[field] = value;
                 lines.push(asked.planned_cell(word, row, &plan, TEXT));

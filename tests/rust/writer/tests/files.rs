@@ -7,6 +7,7 @@ use model::refusal::{BOOL_VIEW, NO_SUCH, WRONG_MAP};
 use model::{InBucket, Placed, Refusal};
 use writer::bucket_faults::{Fault, two_faults};
 use writer::buckets::{BucketFile, Subject};
+use writer::cells::has_padding;
 use writer::objects::Expect;
 use writer::rng::Rng;
 use writer::sets::Set;
@@ -32,8 +33,8 @@ fn assert_refusal<F: BucketFile>(subject: &Subject<F>, expect: Expect, what: &st
 }
 
 /// A good file is accepted, every cell is where the writer put it, in
-/// IncrementalStMan also if one bucket is checked, and the search looks at as many
-/// last rows as the writer counts.
+/// IncrementalStMan also if one bucket is checked, the search looks at as many
+/// last rows as the writer counts, and a view ends with its text.
 fn assert_cells<F: BucketFile>(subject: &Subject<F>, number: u64, is_standard: bool) {
     let table = subject.table.encode();
     let file = subject.file.encode();
@@ -79,12 +80,24 @@ fn assert_cells<F: BucketFile>(subject: &Subject<F>, number: u64, is_standard: b
             };
             let place = model::place_in_bucket(&table, &file, row, position, &mut room);
             assert_eq!(place, in_bucket, "case {number}, row {row}");
-            let view = model::view(&table, &file, row, position, &mut room);
+            let views = [
+                model::padded_view(&table, &file, row, position, &mut room),
+                model::padded_view_by_plan(&table, &file, row, &plan, &mut room),
+                model::view(&table, &file, row, position, &mut room),
+                model::view_by_plan(&table, &file, row, &plan, &mut room),
+            ];
             if is_standard && column.data_type == BOOL.number {
-                assert_eq!(view, Err(BOOL_VIEW));
-            } else {
-                assert_eq!(view.unwrap(), &file[first as usize / 8..][..bits as usize / 8]);
+                assert_eq!(views, [Err(BOOL_VIEW); 4], "case {number}, row {row}");
+                continue;
             }
+            let cell = &file[first as usize / 8..][..bits as usize / 8];
+            let mut text = cell;
+            if is_standard && has_padding(column) {
+                // The bytes up to the first zero byte, which splits it.
+                text = cell.split(|byte| *byte == 0).next().unwrap();
+            }
+            let expected = [cell, cell, text, text].map(|view| view.as_ptr_range());
+            assert_eq!(views.map(|view| view.unwrap().as_ptr_range()), expected, "case {number}");
         }
     }
 }
@@ -195,6 +208,7 @@ fn large_files_are_accepted() {
         assert_cells(&large_files::standard(rng), number, true);
         assert_cells(&large_files::incremental(rng), number, false);
         assert_eq!(refusal(&large_files::large_bucket(rng, number)), None);
+        assert_cells(&large_files::large_texts(rng), number, true);
     }
     for endianness in [0, 1] {
         assert_cells(&large_files::most_entries(endianness), endianness.into(), true);
@@ -236,7 +250,7 @@ fn refusals(set: Set) -> [usize; 15] {
 
 #[test]
 fn every_refusal_number_occurs_often() {
-    let counts = refusals(Set::Standard { seed: 41, count: 6000 });
+    let counts = refusals(Set::Standard { seed: 41, count: 8000 });
     assert!(counts.iter().all(|count| *count >= 50), "{counts:?}");
     let counts = refusals(Set::Incremental { seed: 41, count: 6000 });
     assert!(counts[..=12].iter().all(|count| *count >= 30), "{counts:?}");

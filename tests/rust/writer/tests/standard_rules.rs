@@ -1,7 +1,9 @@
 //! Rules of RULES.md 5 for StandardStMan, each by hand on its small file.
 
 use model::refusal::{BOOL_VIEW, NO_ROW, NO_SUCH, STALE_PLAN};
-use model::{Kind, Plan, Refusal, check, place, place_by_plan, plan, view, view_by_plan};
+use model::{
+    Kind, Plan, Refusal, check, padded_view, place, place_by_plan, plan, view, view_by_plan,
+};
 use writer::buckets::{BucketFile, Subject};
 use writer::samples;
 use writer::standard::{FreeSpace, Index, StandardFile};
@@ -78,7 +80,9 @@ fn samples_are_accepted() {
     assert_eq!(table, samples::all()[2].1);
     let room = &mut [0; 252];
     assert_eq!(check(&table, 0, &file, room), Ok(Kind::Standard));
-    assert_eq!(view(&table, &file, 3, 11, room).unwrap(), b"RT3\0\0\0\0\0\0\0\0\0\0\0\0\0");
+    let station = padded_view(&table, &file, 3, 11, room).unwrap();
+    assert_eq!(station, b"RT3\0\0\0\0\0\0\0\0\0\0\0\0\0");
+    assert_eq!(view(&table, &file, 3, 11, room).unwrap(), b"RT3");
     assert_eq!(view(&table, &file, 1, 10, room).unwrap(), b"observer\x08\0\0\0");
     let uvw = [25.0, -80.5, 6.0_f64].map(f64::to_le_bytes).concat();
     assert_eq!(view(&table, &file, 1, 3, room).unwrap(), uvw);

@@ -38,8 +38,12 @@ pub struct Column {
     pub data_type: (&'static str, u32),
     /// The bytes of a default value.
     pub default: usize,
-    /// The elements of a direct array; none for a scalar.
+    /// The elements of an array; none for a scalar.
     pub elements: Option<u32>,
+    /// Whether an array stands in the cell, not in the array file.
+    pub is_direct: bool,
+    /// The string maximum.
+    pub maximum: u32,
     pub set: u32,
     pub offset: u32,
 }
@@ -54,7 +58,7 @@ const fn scalar(
     default: usize,
     offset: u32,
 ) -> Column {
-    Column { name, data_type, default, elements: None, set: 0, offset }
+    Column { name, data_type, default, elements: None, is_direct: true, maximum: 0, set: 0, offset }
 }
 
 impl Column {
@@ -62,9 +66,10 @@ impl Column {
         let kind = if self.elements.is_some() { "Array" } else { "Scalar" };
         let (data_type, number) = self.data_type;
         let options_and_shape = match self.elements {
-            // Options 1 and 4, one dimension.
+            // Options 1 and 4, or 4 alone, and one dimension.
             Some(elements) => {
-                [uints(&[5, 1]), object("IPosition", 1, &[uints(&[1, elements])])].concat()
+                let options = if self.is_direct { 5 } else { 4 };
+                [uints(&[options, 1]), object("IPosition", 1, &[uints(&[1, elements])])].concat()
             }
             None => uints(&[0, 0]),
         };
@@ -78,7 +83,7 @@ impl Column {
             string("StandardStMan"),
             uint(number), // data type
             options_and_shape,
-            uint(0), // string maximum
+            uint(self.maximum),
             record(),
             uint(1), // ScalarColumnDesc or ArrayColumnDesc version
             vec![0; if self.elements.is_some() { 1 } else { self.default }],

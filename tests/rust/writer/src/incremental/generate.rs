@@ -137,7 +137,13 @@ fn data_bucket(rng: &mut Rng, columns: &[&Column], rows: Range<u64>) -> DataBuck
     }
     let is_large = |values: &Values| values.starts.iter().any(|start| *start > u32::MAX.into());
     let must_be_wide = values.iter().any(is_large);
-    let mut bucket = DataBucket::new(0, rng.bytes(length), values);
+    let mut data = rng.bytes(length);
+    // Zero bytes in some, on which nothing else depends.
+    let zeros = &mut rng.clone();
+    if zeros.chance(1, 2) {
+        data.iter_mut().filter(|_| zeros.chance(1, 2)).for_each(|byte| *byte = 0);
+    }
+    let mut bucket = DataBucket::new(0, data, values);
     if must_be_wide || rng.chance(1, 3) {
         bucket.widen(high_byte(rng));
     }

@@ -3,6 +3,7 @@
 use super::{FreeSpace, Index, LINKS, StandardFile};
 use crate::buckets::{Buckets, Subject};
 use crate::cells;
+use crate::contents;
 use crate::lean;
 use crate::rng::Rng;
 use crate::table::Column;
@@ -59,7 +60,8 @@ fn set(rng: &mut Rng, sets: usize) -> Set {
         1..=5 => rng.within(1..=3),
         _ => rng.within(1..=if sets > 4 { 3 } else { 6 }),
     };
-    let columns: Vec<Column> = (0..columns).map(|_| lean::column(rng)).collect();
+    let column = |_| if rng.chance(1, 3) { lean::text_column(rng) } else { lean::column(rng) };
+    let columns: Vec<Column> = (0..columns).map(column).collect();
     let row_bytes: u64 = columns.iter().map(|column| cells::extent(column, 1)).sum();
     let rows_per_bucket = match rng.below(10) {
         _ if row_bytes > 60 => rng.within(1..=3),
@@ -160,7 +162,11 @@ pub fn with_parts(rng: &mut Rng, rows: u64, sets: Vec<(Vec<u64>, Set)>) -> Subje
     let mut file = StandardFile::new(buckets, Vec::new(), indices);
     place_buckets(rng, &mut file, least_size);
     fill(rng, &mut file);
-    Subject { table, number, file }
+    let mut subject = Subject { table, number, file };
+    if !rng.chance(1, 8) {
+        contents::put_some(rng, &mut subject);
+    }
+    subject
 }
 
 /// The entries of buckets with so many rows each; their numbers are chosen
