@@ -34,8 +34,8 @@
  *
  * Numbers that the caller passes may be any 64-bit numbers. A row count is 0 to 2^62, so rows do not fit into 32 bits.
  *
- * Room. hv_check, hv_plan, hv_place and hv_view are lent a room for the index text of a StandardStMan file. It needs the
- * file's index length, else HV_REFUSED_ROOM; HV_ROOM_MOST bytes are always enough. An IncrementalStMan file needs none (0
+ * Room. hv_check, hv_plan, hv_place, hv_view and hv_padded_view are lent a room for the index text of a StandardStMan file. It
+ * needs the file's index length, else HV_REFUSED_ROOM; HV_ROOM_MOST bytes are always enough. An IncrementalStMan file needs none (0
  * bytes will do). Afterwards the whole room is zero where the function refused and for every IncrementalStMan file; else it
  * holds the index text, then zeros. hv_place_in_bucket, which is about IncrementalStMan files alone, is lent a room as the others
  * are: of any length, 0 too, and all zero afterwards.
@@ -53,8 +53,8 @@ extern "C" {
 #endif
 
 /* The version: here, and nowhere else. */
-#define HV_VERSION_MAJOR 3
-#define HV_VERSION_MINOR 1
+#define HV_VERSION_MAJOR 4
+#define HV_VERSION_MINOR 0
 #define HV_VERSION_PATCH 0
 #define HV_IN_QUOTES(major, minor, patch) #major "." #minor "." #patch
 #define HV_QUOTED(major, minor, patch) HV_IN_QUOTES(major, minor, patch)
@@ -206,7 +206,10 @@ enum hv_in_bucket_number {
     HV_IN_BUCKET_LEN
 };
 
-/* The numbers of a view. Start and length are counted in bytes, from the file's start. */
+/*
+ * The numbers of a view, padded or not. Start and length are counted in bytes, from the file's start. The length is 0 in a
+ * refusal, and of an empty text, whose start is the cell's; the number that the function gives tells the two apart.
+ */
 enum hv_view_number { HV_VIEW_START, HV_VIEW_LENGTH, HV_VIEW_BYTE, HV_VIEW_LEN };
 
 /*
@@ -281,8 +284,11 @@ enum hv_number hv_place_in_bucket(const uint8_t *table, size_t table_len, const 
                                   uint64_t position, uint8_t *room, size_t room_len, uint64_t *out, size_t out_len);
 
 /*
- * View: the bytes of the file that hold the cell of a row and a column position, after a check of the file.
- * out: HV_VIEW_LEN numbers; the cell is file[start] to file[start + length - 1]. Refusals: those of hv_plan; 9; 14, since the
+ * View: the bytes of the file that hold the cell of a row and a column position, after a check of the file. Of a String scalar
+ * with a maximum (HV_COLUMN_STRING_MOST above 0) they are its text: they stop before the cell's first zero byte, or run to the
+ * maximum if there is none. What stands behind that byte does not count, whatever it is. A text that begins with a zero byte is
+ * accepted, with length 0. A String without a maximum and a String array have no padding: their views are the whole cells.
+ * out: HV_VIEW_LEN numbers; the bytes are file[start] to file[start + length - 1]. Refusals: those of hv_plan; 9; 14, since the
  * cells of a Bool column in StandardStMan need not be whole bytes: hv_place gives their bits.
  */
 enum hv_number hv_view(const uint8_t *table, size_t table_len, const uint8_t *file, size_t file_len, uint64_t row,
@@ -295,6 +301,22 @@ enum hv_number hv_view(const uint8_t *table, size_t table_len, const uint8_t *fi
 enum hv_number hv_view_planned(const uint8_t *table, size_t table_len, const uint8_t *file, size_t file_len, uint64_t row,
                                const uint64_t *plan, size_t plan_len, uint8_t *room, size_t room_len, uint64_t *out,
                                size_t out_len);
+
+/*
+ * Padded view: the bytes of the whole cell, of a String scalar with a maximum as many as that. Of every other column the answer is
+ * hv_view's, and of every column refusal, byte and room are.
+ * out: HV_VIEW_LEN numbers. Refusals: those of hv_view.
+ */
+enum hv_number hv_padded_view(const uint8_t *table, size_t table_len, const uint8_t *file, size_t file_len, uint64_t row,
+                              uint64_t position, uint8_t *room, size_t room_len, uint64_t *out, size_t out_len);
+
+/*
+ * Padded view, of the column that a plan was made for; of the plan as hv_place_planned has it.
+ * out: HV_VIEW_LEN numbers. Refusals: those of hv_view_planned.
+ */
+enum hv_number hv_padded_view_planned(const uint8_t *table, size_t table_len, const uint8_t *file, size_t file_len, uint64_t row,
+                                      const uint64_t *plan, size_t plan_len, uint8_t *room, size_t room_len, uint64_t *out,
+                                      size_t out_len);
 
 /*
  * The bits of an element, from the number of a data type (enum hv_data_type): 1 for a Bool, 8 times its bytes for every other

@@ -1,4 +1,4 @@
-/* hv cell: where a cell is kept, and its bytes. */
+/* hv cell: where a cell is kept, its bytes, and the text of a String. */
 #include "command.h"
 #include "files.h"
 #include "json.h"
@@ -34,6 +34,8 @@ struct answer {
     bool is_bits; /* the cell is no run of whole bytes */
     uint8_t *cell; /* the bytes that hold the cell, copied */
     uint64_t cell_len;
+    bool has_text; /* the cell is a text and its padding, and the next is right */
+    uint64_t text_len; /* how many of its first bytes are the text */
 };
 
 /* The question to a manager's file. */
@@ -45,7 +47,7 @@ struct search {
     struct answer *answer;
     uint64_t number;
     struct dump dump; /* where that blames a byte */
-    bool is_beyond; /* the place lies not in the file, so the bytes changed from one question to the next */
+    bool is_beyond; /* the place lies not in the file, or the text is not the cell's, so bytes changed between two questions */
 };
 
 static uint8_t room[HV_ROOM_MOST];
@@ -93,7 +95,38 @@ static uint64_t ask_bucket(struct search *search)
     return 0;
 }
 
-/* Plan, place and view, each after a check of the file. The first that is refused decides; gives the byte that it blames. */
+/* A String scalar with a maximum. */
+static bool is_padded(const uint64_t *column)
+{
+    return column[HV_COLUMN_DATA_TYPE] == HV_TYPE_STRING && column[HV_COLUMN_ARRAY] == 0 && column[HV_COLUMN_STRING_MOST] > 0;
+}
+
+/* Whether the copied cell has so many bytes before its first zero byte. */
+static bool has_before_zero(const struct answer *answer, uint64_t len)
+{
+    const uint8_t *zero = memchr(answer->cell, 0, answer->cell_len);
+
+    return len == (zero == NULL ? answer->cell_len : (uint64_t)(zero - answer->cell));
+}
+
+/* The view of a padded String, whose cell was copied from `start` on; gives the byte that a refusal blames. */
+static uint64_t ask_text(struct search *search, uint64_t start)
+{
+    struct answer *answer = search->answer;
+    struct bytes table = search->table, file = search->file;
+    uint64_t view[HV_VIEW_LEN];
+
+    search->number = hv_view(table.at, table.len, file.at, file.len, search->row, search->position, room, sizeof room, view,
+                             HV_VIEW_LEN);
+    if (search->number == HV_ACCEPTED) {
+        search->is_beyond = view[HV_VIEW_START] != start || !has_before_zero(answer, view[HV_VIEW_LENGTH]);
+        answer->has_text = true;
+        answer->text_len = view[HV_VIEW_LENGTH];
+    }
+    return view[HV_VIEW_BYTE];
+}
+
+/* Plan, place and views, each after a check of the file. The first that is refused decides; gives the byte that it blames. */
 static uint64_t ask_cell(struct search *search)
 {
     struct answer *answer = search->answer;
@@ -108,14 +141,16 @@ static uint64_t ask_cell(struct search *search)
                               answer->place, HV_PLACE_LEN);
     if (search->number != HV_ACCEPTED)
         return answer->place[HV_PLACE_BYTE];
-    search->number = hv_view(table.at, table.len, file.at, file.len, search->row, search->position, room, sizeof room, view,
-                             HV_VIEW_LEN);
+    search->number = hv_padded_view(table.at, table.len, file.at, file.len, search->row, search->position, room, sizeof room,
+                                    view, HV_VIEW_LEN);
     if (search->number == HV_REFUSED_BOOL) {
         search->number = HV_ACCEPTED;
         answer->is_bits = true;
         copy_cell(search, first_byte(answer), last_byte(answer) - first_byte(answer) + 1);
     } else if (search->number == HV_ACCEPTED) {
         copy_cell(search, view[HV_VIEW_START], view[HV_VIEW_LENGTH]);
+        if (!search->is_beyond && is_padded(answer->column))
+            return ask_text(search, view[HV_VIEW_START]);
     }
     return view[HV_VIEW_BYTE];
 }
@@ -285,6 +320,21 @@ static void print_bits(const struct answer *answer)
         printf("%s%d%s", i % 64 == 0 ? "  " : "", bit_of(answer, i), i % 64 == 63 || i + 1 == count ? "\n" : "");
 }
 
+/* The text, escaped, to be freed; null where the cell has none. */
+static char *shown_text(const struct answer *answer)
+{
+    return answer->has_text ? escaped((struct bytes){answer->cell, answer->text_len}) : NULL;
+}
+
+static void print_text(const struct answer *answer)
+{
+    char *shown = shown_text(answer);
+
+    if (shown != NULL)
+        printf("text \"%s\"\n", shown);
+    free(shown);
+}
+
 static void print_cell(const struct answer *answer, const struct question *question)
 {
     uint64_t first = answer->place[HV_PLACE_FIRST_BIT];
@@ -306,6 +356,7 @@ static void print_cell(const struct answer *answer, const struct question *quest
     } else {
         printf("\n");
         print_bytes(answer);
+        print_text(answer);
     }
     free(column);
 }
@@ -334,6 +385,7 @@ static void json_place(const struct answer *answer)
     bool is_known = answer->verdict.outcome == OUTCOME_ACCEPTED;
     const uint64_t *plan = answer->plan;
     char *cell = is_known ? cell_text(answer) : NULL;
+    char *shown = is_known ? shown_text(answer) : NULL;
 
     json_known("position", is_known, plan[HV_PLAN_POSITION]);
     json_known("elements", is_known, plan[HV_PLAN_ELEMENTS]);
@@ -352,7 +404,9 @@ static void json_place(const struct answer *answer)
     json_known("last_byte", is_known, last_byte(answer));
     json_text("bytes", answer->is_bits ? NULL : cell);
     json_text("bits", answer->is_bits ? cell : NULL);
+    json_text("text", shown);
     free(cell);
+    free(shown);
 }
 
 static void json_answer(const struct answer *answer, const struct question *question)
@@ -449,6 +503,8 @@ const struct command cell_command = {
             "as the file has them, that is in the table's byte order.\n"
             "Of a Bool column in StandardStMan, whose cells need not be whole bytes, it prints the bits, first to\n"
             "last; bits count from a byte's lowest.\n"
+            "Of a scalar String column with a maximum it prints the text too, below the bytes: what stands before\n"
+            "the cell's first zero byte, or all of it if there is none. The bytes are those of the whole cell.\n"
             "Of a column in IncrementalStMan it checks what leads to the row's bucket (table.dat, and the file's\n"
             "header, index and free list) and of the buckets that one alone; a line says so. A fault in another\n"
             "bucket is not seen then. With --whole it checks all buckets, as 'hv check' does. In StandardStMan it\n"

@@ -56,8 +56,8 @@ static int print_help(void)
     printf("%s\nReads Casacore tables with a library that is proved.\n\nCommands:\n", usage);
     for (i = 0; i < COMMANDS; i++)
         printf("  %-10s%s\n", commands[i]->name, commands[i]->summary);
-    printf("\n--json prints one JSON object. -- ends the options. Names and paths are printed with \\xNN for each\n"
-           "byte that is not printable ASCII, for the backslash and for the double quote.\n%s",
+    printf("\n--json prints one JSON object. -- ends the options. Names, paths and texts are printed with \\xNN for\n"
+           "each byte that is not printable ASCII, for the backslash and for the double quote.\n%s",
            statuses);
     return STATUS_ACCEPTED;
 }

@@ -1,4 +1,4 @@
-/* Names and paths as hv shows them, and as it is given them. */
+/* Names, paths and texts as hv shows them, and as it is given them. */
 #ifndef NAMES_H
 #define NAMES_H
 
@@ -17,7 +17,7 @@ extern const struct bytes nothing;
 
 /*
  * Bytes as they are shown: \xNN, in lower-case hex, for each that is not printable ASCII, for the backslash and for the double
- * quote. So no name can be taken for another, for a line of hv's own or for an order to the terminal. To be freed.
+ * quote. So no name or text can be taken for another, for a line of hv's own or for an order to the terminal. To be freed.
  */
 char *escaped(struct bytes bytes);
 char *escaped_text(const char *given);

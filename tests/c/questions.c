@@ -1,8 +1,9 @@
 /*
- * Asks every question of include/helvidrane.h: of files on the samples `small`, `little`, `arrays` and `survey`, accepted, refused
- * with each number and the byte, with row numbers of 4 and of 8 bytes, with faults in the row's bucket and in others, with `out`
- * shorter and longer than the answer, with plans that are too short, and with null pointers to runs of 0 elements; and of type
- * numbers. The answers are those of RULES.md and of the independent model. It is C and C++.
+ * Asks every question of include/helvidrane.h: of files on the samples `small`, `little`, `arrays`, `survey` and `texts`, accepted,
+ * refused with each number and the byte, with row numbers of 4 and of 8 bytes, with faults in the row's bucket and in others, with
+ * texts that are full, padded and empty, with `out` shorter and longer than the answer, with plans that are too short, and with null
+ * pointers to runs of 0 elements; and of type numbers. The answers are those of RULES.md and of the independent model. It is C and
+ * C++.
  *
  * questions SAMPLES: exits with 1 at the first difference.
  */
@@ -15,16 +16,32 @@
 #define HOLD(condition, line) hold(condition, #condition, __FILE__, line)
 #define ACCEPTED(question, values) accepted(question, values, sizeof values / sizeof *values, __LINE__)
 #define REFUSED(question, number) refused(question, number, 0, __LINE__)
+#define REFUSED_VIEWS(number) refused_views(number, 0, __LINE__)
 
-enum question { DESCRIPTION, COLUMN, MANAGER, BY_NAME, CHECK, PLAN, PLACE, PLACE_PLANNED, VIEW, VIEW_PLANNED, IN_BUCKET };
+/* From CHECK to PADDED_PLANNED they ask after a check of the whole file, and are refused alike if it is wrong. */
+enum question {
+    DESCRIPTION,
+    COLUMN,
+    MANAGER,
+    BY_NAME,
+    CHECK,
+    PLAN,
+    PLACE,
+    PLACE_PLANNED,
+    VIEW,
+    VIEW_PLANNED,
+    PADDED,
+    PADDED_PLANNED,
+    IN_BUCKET
+};
 
 static const size_t answer_lens[] = {HV_DESCRIPTION_LEN, HV_COLUMN_LEN, HV_MANAGER_LEN, HV_POSITION_LEN, HV_CHECK_LEN,
                                      HV_PLAN_LEN,        HV_PLACE_LEN,  HV_PLACE_LEN,   HV_VIEW_LEN,     HV_VIEW_LEN,
-                                     HV_IN_BUCKET_LEN};
+                                     HV_VIEW_LEN,        HV_VIEW_LEN,   HV_IN_BUCKET_LEN};
 /* The numbers of the bytes. */
 static const size_t bytes_at[] = {HV_DESCRIPTION_BYTE, HV_COLUMN_BYTE, HV_MANAGER_BYTE, HV_POSITION_BYTE, HV_CHECK_BYTE,
                                   HV_PLAN_BYTE,        HV_PLACE_BYTE,  HV_PLACE_BYTE,   HV_VIEW_BYTE,     HV_VIEW_BYTE,
-                                  HV_IN_BUCKET_BYTE};
+                                  HV_VIEW_BYTE,        HV_VIEW_BYTE,   HV_IN_BUCKET_BYTE};
 
 enum { BYTES_MOST = 1 << 20, OUT_MOST = 16, ROOM_MOST = HV_ROOM_MOST + 16, PLAN_MOST = HV_PLAN_LEN + 2 };
 
@@ -116,6 +133,10 @@ static enum hv_number ask(enum question question, size_t out_len)
         return hv_view(t, table.len, f, file.len, row, number, r, room_len, o, out_len);
     case VIEW_PLANNED:
         return hv_view_planned(t, table.len, f, file.len, row, p, plan_len, r, room_len, o, out_len);
+    case PADDED:
+        return hv_padded_view(t, table.len, f, file.len, row, number, r, room_len, o, out_len);
+    case PADDED_PLANNED:
+        return hv_padded_view_planned(t, table.len, f, file.len, row, p, plan_len, r, room_len, o, out_len);
     case IN_BUCKET:
         return hv_place_in_bucket(t, table.len, f, file.len, row, number, r, room_len, o, out_len);
     }
@@ -183,6 +204,15 @@ static void refused(enum question question, enum hv_number refusal, uint64_t byt
         if (question >= CHECK)
             HOLD(room_is(0, room_len, 0), line);
     }
+}
+
+/* All four views. */
+static void refused_views(enum hv_number refusal, uint64_t byte, int line)
+{
+    int question;
+
+    for (question = VIEW; question <= PADDED_PLANNED; question++)
+        refused((enum question)question, refusal, byte, line);
 }
 
 static void blamed(enum question question, enum hv_number refusal, uint64_t byte, int line)
@@ -321,15 +351,18 @@ static void ask_of_cells(void)
         REFUSED(IN_BUCKET, HV_REFUSED_MISSING); /* it is StandardStMan's */
         long_plans(PLACE_PLANNED, whole, __LINE__);
         if (number == 1) {
-            REFUSED(VIEW, HV_REFUSED_BOOL);
-            REFUSED(VIEW_PLANNED, HV_REFUSED_BOOL);
+            REFUSED_VIEWS(HV_REFUSED_BOOL);
         } else {
             ACCEPTED(VIEW, start_and_length);
             ACCEPTED(VIEW_PLANNED, start_and_length);
+            ACCEPTED(PADDED, start_and_length);
+            ACCEPTED(PADDED_PLANNED, start_and_length);
             long_plans(VIEW_PLANNED, start_and_length, __LINE__);
+            long_plans(PADDED_PLANNED, start_and_length, __LINE__);
         }
         short_plans(PLACE_PLANNED, __LINE__);
         short_plans(VIEW_PLANNED, __LINE__);
+        short_plans(PADDED_PLANNED, __LINE__);
     }
 
     /* A row too many, also where the column is Bool: 9 comes before 14. Cut to 32 bits, the second is row 5. */
@@ -341,8 +374,7 @@ static void ask_of_cells(void)
             REFUSED(IN_BUCKET, HV_REFUSED_MISSING);
             REFUSED(PLACE, HV_REFUSED_ROW);
             REFUSED(PLACE_PLANNED, HV_REFUSED_ROW);
-            REFUSED(VIEW, HV_REFUSED_ROW);
-            REFUSED(VIEW_PLANNED, HV_REFUSED_ROW);
+            REFUSED_VIEWS(HV_REFUSED_ROW);
         }
     }
 
@@ -354,6 +386,7 @@ static void ask_of_cells(void)
         plan[i] += 1;
         REFUSED(PLACE_PLANNED, refusal);
         REFUSED(VIEW_PLANNED, refusal);
+        REFUSED(PADDED_PLANNED, refusal);
     }
 
     /* The index length is that of the text. */
@@ -366,8 +399,7 @@ static void ask_of_cells(void)
         REFUSED(PLAN, HV_REFUSED_ROOM);
         REFUSED(PLACE, HV_REFUSED_ROOM);
         REFUSED(PLACE_PLANNED, HV_REFUSED_ROOM);
-        REFUSED(VIEW, HV_REFUSED_ROOM);
-        REFUSED(VIEW_PLANNED, HV_REFUSED_ROOM);
+        REFUSED_VIEWS(HV_REFUSED_ROOM);
     }
     room_len = HV_ROOM_MOST;
     ACCEPTED(CHECK, bucket_size);
@@ -408,12 +440,13 @@ static void refused_from(enum question first, enum hv_number refusal, uint64_t b
     int question;
 
     set_scan();
-    for (question = first; question <= VIEW_PLANNED; question++)
+    for (question = first; question <= PADDED_PLANNED; question++)
         refused((enum question)question, refusal, byte, line);
     if (first == DESCRIPTION)
         refused(IN_BUCKET, refusal, byte, line);
     short_plans(PLACE_PLANNED, line);
     short_plans(VIEW_PLANNED, line);
+    short_plans(PADDED_PLANNED, line);
 }
 
 /* The same of number and byte alone. It is quick, so that many files can be asked about. */
@@ -422,7 +455,7 @@ static void blamed_from(enum question first, enum hv_number refusal, uint64_t by
     int question;
 
     set_scan();
-    for (question = first; question <= VIEW_PLANNED; question++)
+    for (question = first; question <= PADDED_PLANNED; question++)
         blamed((enum question)question, refusal, byte, line);
     if (first == DESCRIPTION)
         blamed(IN_BUCKET, refusal, byte, line);
@@ -1082,6 +1115,7 @@ static void ask_of_incremental(const char *samples)
         number = 6; /* its column FLAG */
         REFUSED(PLAN, HV_REFUSED_MISSING);
         REFUSED(VIEW, HV_REFUSED_MISSING);
+        REFUSED(PADDED, HV_REFUSED_MISSING);
         REFUSED(IN_BUCKET, HV_REFUSED_MISSING);
         number = 4;
         row = 7;
@@ -1091,12 +1125,15 @@ static void ask_of_incremental(const char *samples)
         ACCEPTED(PLACE_PLANNED, place);
         ACCEPTED(VIEW, view);
         ACCEPTED(VIEW_PLANNED, view);
+        ACCEPTED(PADDED, view);
+        ACCEPTED(PADDED_PLANNED, view);
         ACCEPTED(IN_BUCKET, in_bucket);
         row = 20;
         REFUSED(PLACE, HV_REFUSED_ROW);
         REFUSED(IN_BUCKET, HV_REFUSED_ROW);
         plan[HV_PLAN_BUCKET_SIZE] = 129;
         REFUSED(VIEW_PLANNED, HV_REFUSED_PLAN);
+        REFUSED(PADDED_PLANNED, HV_REFUSED_PLAN);
     }
 
     set_plan(scan_number);
@@ -1558,6 +1595,8 @@ static void ask_of_survey(const char *samples)
             ACCEPTED(PLACE_PLANNED, place);
             ACCEPTED(VIEW, view);
             ACCEPTED(VIEW_PLANNED, view);
+            ACCEPTED(PADDED, view);
+            ACCEPTED(PADDED_PLANNED, view);
             ACCEPTED(IN_BUCKET, in_bucket);
         }
         for (i = 0; i < sizeof absent / sizeof *absent; i++) {
@@ -1565,8 +1604,7 @@ static void ask_of_survey(const char *samples)
             REFUSED(IN_BUCKET, HV_REFUSED_ROW);
             REFUSED(PLACE, HV_REFUSED_ROW);
             REFUSED(PLACE_PLANNED, HV_REFUSED_ROW);
-            REFUSED(VIEW, HV_REFUSED_ROW);
-            REFUSED(VIEW_PLANNED, HV_REFUSED_ROW);
+            REFUSED_VIEWS(HV_REFUSED_ROW);
         }
     }
     /* ANTENNA1 of row 2^32 is 2, that of row 0 is 0. */
@@ -1592,6 +1630,228 @@ static void ask_of_survey(const char *samples)
     row = SURVEY_ROWS - 1;
     REFUSED(PLACE, HV_REFUSED_MAP);
     ACCEPTED(IN_BUCKET, last);
+}
+
+/* The views of a cell, by position and by plan; of a padded text its length, of other cells the whole. */
+static void viewed(uint64_t start, uint64_t whole, uint64_t shown, int line)
+{
+    const uint64_t view[] = {start, shown, 0}, padded[] = {start, whole, 0};
+
+    accepted(VIEW, view, HV_VIEW_LEN, line);
+    accepted(VIEW_PLANNED, view, HV_VIEW_LEN, line);
+    accepted(PADDED, padded, HV_VIEW_LEN, line);
+    accepted(PADDED_PLANNED, padded, HV_VIEW_LEN, line);
+}
+
+enum { TEXTS_ROWS = 7, NAME_BYTES = 8 };
+
+/* The plans of `texts`: ANTENNA, NAME with a maximum of 8, STATION without one, FLAG_ROW. */
+static const uint64_t plans_of_texts[4][HV_PLAN_LEN] = {{0, 0, HV_TYPE_INT, 1, 32, 0, 0, 4, 128, 0},
+                                                        {1, 0, HV_TYPE_STRING, 1, 64, 0, 16, 4, 128, 0},
+                                                        {2, 0, HV_TYPE_STRING, 1, 96, 0, 48, 4, 128, 0},
+                                                        {3, 0, HV_TYPE_BOOL, 1, 1, 0, 96, 4, 128, 0}};
+/* Where the cells of NAME begin. */
+static const size_t names_at[TEXTS_ROWS] = {528, 536, 544, 552, 656, 664, 672};
+
+/* `texts`: big endian, buckets of 128 bytes with 4 rows, and the index text of 134 bytes in buckets 2 and 3. */
+static void load_texts(const char *samples)
+{
+    read_file(&table, samples, "texts", "table.dat");
+    read_file(&file, samples, "texts", "table.f0");
+    memcpy(text.at, file.at + 512 + 2 * 128 + 8, 120);
+    memcpy(text.at + 120, file.at + 512 + 3 * 128 + 8, 14);
+    text.len = 134;
+    room_len = 134;
+}
+
+/* Every cell of NAME as the sample has it: padded, full, empty, with bytes behind the first zero byte, and of any bytes. */
+static void ask_of_names(void)
+{
+    static const char *const names[TEXTS_ROWS] = {"RA01", "PARKES64", "", "A", "caf\xc3\xa9", "A\"B\\C", ""};
+    uint64_t column[HV_COLUMN_LEN];
+
+    number = 1;
+    HOLD(ask(COLUMN, HV_COLUMN_LEN) == HV_ACCEPTED, __LINE__);
+    memcpy(column, out, sizeof column);
+    HOLD(column[HV_COLUMN_DATA_TYPE] == HV_TYPE_STRING && column[HV_COLUMN_ARRAY] == 0, __LINE__);
+    HOLD(column[HV_COLUMN_STRING_MOST] == NAME_BYTES && column[HV_COLUMN_BITS] == 8 * NAME_BYTES, __LINE__);
+    ACCEPTED(PLAN, plans_of_texts[1]);
+    set_plan(plans_of_texts[1]);
+    for (row = 0; row < TEXTS_ROWS; row++) {
+        const uint64_t place[] = {8 * names_at[row], 8 * NAME_BYTES, 1, 2, 0}, len = strlen(names[row]);
+        ACCEPTED(PLACE, place);
+        ACCEPTED(PLACE_PLANNED, place);
+        viewed(names_at[row], NAME_BYTES, len, __LINE__);
+        HOLD(memcmp(file.at + names_at[row], names[row], len) == 0, __LINE__);
+        HOLD(len == NAME_BYTES || file.at[names_at[row] + len] == 0, __LINE__);
+    }
+    /* Bytes behind the first zero byte: of row 3 one, of row 6 three; and what follows the full text of row 1 is row 2. */
+    HOLD(file.at[554] == 'B' && memcmp(file.at + 673, "OLD", 3) == 0 && names_at[1] + NAME_BYTES == names_at[2], __LINE__);
+
+    /* An accepted text of length 0, and refusals, whose length is 0 too: the number tells them apart. */
+    row = 2;
+    HOLD(ask(VIEW, HV_VIEW_LEN) == HV_ACCEPTED && out[HV_VIEW_START] == 544 && out[HV_VIEW_LENGTH] == 0, __LINE__);
+    HOLD(ask(VIEW_PLANNED, HV_VIEW_LEN) == HV_ACCEPTED && out[HV_VIEW_START] == 544 && out[HV_VIEW_LENGTH] == 0, __LINE__);
+    row = TEXTS_ROWS;
+    HOLD(ask(VIEW, HV_VIEW_LEN) == HV_REFUSED_ROW && out[HV_VIEW_START] == 0 && out[HV_VIEW_LENGTH] == 0, __LINE__);
+    HOLD(ask(VIEW_PLANNED, HV_VIEW_LEN) == HV_REFUSED_ROW && out[HV_VIEW_LENGTH] == 0, __LINE__);
+}
+
+/* The other columns have no padding: their zero bytes are theirs. */
+static void ask_of_other_columns(void)
+{
+    static const uint64_t antennas_at[TEXTS_ROWS] = {512, 516, 520, 524, 640, 644, 648};
+    static const uint64_t stations_at[TEXTS_ROWS] = {560, 572, 584, 596, 688, 700, 712};
+
+    for (row = 0; row < TEXTS_ROWS; row++) {
+        number = 0;
+        set_plan(plans_of_texts[0]);
+        viewed(antennas_at[row], 4, 4, __LINE__);
+        number = 2;
+        set_plan(plans_of_texts[2]);
+        viewed(stations_at[row], 12, 12, __LINE__);
+        HOLD(file.at[stations_at[row] + 5] == 0, __LINE__);
+        number = 3;
+        set_plan(plans_of_texts[3]);
+        REFUSED_VIEWS(HV_REFUSED_BOOL);
+    }
+}
+
+#define VIEWS_REFUSED_EACH(bytes, faults) views_refused_each(bytes, faults, sizeof faults / sizeof *faults, __LINE__)
+
+/* The views of NAME in a file with each of the faults. */
+static void views_refused_each(struct bytes *bytes, const struct fault *faults, size_t count, int line)
+{
+    size_t i;
+
+    room_len = 200;
+    for (i = 0; i < count; i++) {
+        uint8_t good = bytes->at[faults[i].at];
+        HOLD(good != faults[i].byte, line);
+        bytes->at[faults[i].at] = faults[i].byte;
+        for (row = 0; row < 3; row++)
+            refused_views(faults[i].refusal, faults[i].field, line);
+        bytes->at[faults[i].at] = good;
+    }
+}
+
+/* What is refused is refused alike by all views, also where the text is empty. */
+static void ask_of_refused_texts(void)
+{
+    static const uint64_t absent[] = {TEXTS_ROWS, TEXTS_ROWS + 1, (UINT64_C(1) << 32) + 2, UINT64_MAX};
+    static const struct fault in_table[] = {
+        {0, 0, HV_REFUSED_NAME, 0},        /* the mark */
+        {0x1c, 2, HV_REFUSED_VALUE, 0x19}, /* the endianness */
+        {0x1e1, 2, HV_REFUSED_RANGE, 0x1e0}, /* NAME's maximum: 131,080 */
+    };
+    static const struct fault in_file[] = {
+        {0, 0, HV_REFUSED_NAME, 0},          /* the mark */
+        {0x1c, 2, HV_REFUSED_VERSION, 0x19}, /* the header's version */
+        {0x45, 135, HV_REFUSED_LENGTH, 134}, /* the index length */
+        {0x35, 1, HV_REFUSED_CHAIN, 0},      /* one index bucket for two links */
+    };
+    int i;
+
+    number = 1;
+    set_plan(plans_of_texts[1]);
+    for (i = 0; i < 4; i++) {
+        row = absent[i];
+        REFUSED_VIEWS(HV_REFUSED_ROW);
+    }
+    for (row = 0; row < 3; row++)
+        for (room_len = 0; room_len < text.len; room_len += 67)
+            REFUSED_VIEWS(HV_REFUSED_ROOM);
+    room_len = text.len;
+    for (row = 0; row < 3; row++) {
+        for (i = 0; i < HV_PLAN_NUMBERS; i++) {
+            enum hv_number refusal = i == HV_PLAN_POSITION ? HV_REFUSED_MISSING : HV_REFUSED_PLAN;
+            set_plan(plans_of_texts[1]);
+            plan[i] += i == HV_PLAN_POSITION ? 3 : 1;
+            REFUSED(VIEW_PLANNED, refusal);
+            REFUSED(PADDED_PLANNED, refusal);
+        }
+        set_plan(plans_of_texts[1]);
+        short_plans(VIEW_PLANNED, __LINE__);
+        short_plans(PADDED_PLANNED, __LINE__);
+    }
+    VIEWS_REFUSED_EACH(&table, in_table);
+    VIEWS_REFUSED_EACH(&file, in_file);
+}
+
+/* The first zero byte at every place of a cell, with zeros behind it and with other bytes; and none. */
+static void ask_of_zero_bytes(void)
+{
+    static const uint8_t letters[] = {'A', ' ', 0x01, 0x7f, 0x80, 0xff, '"', 'z'};
+    size_t i;
+    int is_padded;
+
+    number = 1;
+    set_plan(plans_of_texts[1]);
+    for (row = 0; row < TEXTS_ROWS; row++)
+        for (i = 0; i <= NAME_BYTES; i++)
+            for (is_padded = 0; is_padded < 2; is_padded++) {
+                uint8_t *cell = file.at + names_at[row];
+                memcpy(cell, letters, NAME_BYTES);
+                if (i < NAME_BYTES)
+                    memset(cell + i, 0, is_padded ? NAME_BYTES - i : 1);
+                viewed(names_at[row], NAME_BYTES, i, __LINE__);
+            }
+}
+
+/* With a lower maximum a cell ends in the text of the next, and a plan that was made before is stale. */
+static void ask_of_lower_maximum(void)
+{
+    static const uint64_t four[HV_PLAN_LEN] = {1, 0, HV_TYPE_STRING, 1, 32, 0, 16, 4, 128, 0};
+    static const uint64_t lens[] = {4, 0, 4, 4}; /* RA01, four zeros, PARK and ES64 */
+
+    table.at[0x1e3] = 4;
+    number = 1;
+    ACCEPTED(PLAN, four);
+    set_plan(four);
+    for (row = 0; row < 4; row++)
+        viewed(528 + 4 * row, 4, lens[row], __LINE__);
+    set_plan(plans_of_texts[1]);
+    row = 0;
+    REFUSED(VIEW_PLANNED, HV_REFUSED_PLAN);
+    REFUSED(PADDED_PLANNED, HV_REFUSED_PLAN);
+}
+
+/* In the little endian `arrays`: OBSERVER has no maximum, STATION has 16, and SCHEDULE is a direct array of Strings. */
+static void ask_of_stations(const char *samples)
+{
+    static const uint64_t whole[] = {12, 16, 12}, lens[] = {12, 3, 12};
+    uint64_t numbers[HV_PLAN_LEN], start;
+    size_t k;
+
+    read_file(&table, samples, "arrays", "table.dat");
+    read_file(&file, samples, "arrays", "table.f0");
+    text.len = 252;
+    memcpy(text.at, file.at + 12050, text.len);
+    room_len = text.len;
+    for (k = 0; k < 3; k++) {
+        number = 10 + k;
+        HOLD(ask(PLAN, HV_PLAN_LEN) == HV_ACCEPTED, __LINE__);
+        memcpy(numbers, out, sizeof numbers);
+        set_plan(numbers);
+        for (row = 0; row < 20; row++) {
+            HOLD(ask(PLACE, HV_PLACE_LEN) == HV_ACCEPTED, __LINE__);
+            start = out[HV_PLACE_FIRST_BIT] / 8;
+            viewed(start, whole[k], lens[k], __LINE__);
+        }
+    }
+}
+
+static void ask_of_texts(const char *samples)
+{
+    load_texts(samples);
+    ask_of_names();
+    ask_of_other_columns();
+    ask_of_refused_texts();
+    load_texts(samples);
+    ask_of_lower_maximum();
+    load_texts(samples);
+    ask_of_zero_bytes();
+    ask_of_stations(samples);
 }
 
 /* The bits of elements: each type's, and none of a String and of numbers that are no type's or only end as one does. */
@@ -1684,6 +1944,7 @@ int main(int argc, char **argv)
         ask_of_wide_incremental(argv[1]);
         ask_of_one_bucket(argv[1]);
         ask_of_survey(argv[1]);
+        ask_of_texts(argv[1]);
     }
     return 0;
 }

@@ -3,7 +3,7 @@
 use std::path::Path;
 use std::process::Command;
 
-const FUNCTIONS: [&str; 12] = [
+const FUNCTIONS: [&str; 14] = [
     "hv_description",
     "hv_column",
     "hv_manager",
@@ -15,6 +15,8 @@ const FUNCTIONS: [&str; 12] = [
     "hv_place_in_bucket",
     "hv_view",
     "hv_view_planned",
+    "hv_padded_view",
+    "hv_padded_view_planned",
     "hv_element_bits",
 ];
 

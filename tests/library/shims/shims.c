@@ -207,7 +207,8 @@ enum hv_number SHIM(hv_plan)(const uint8_t *table, size_t table_len, const uint8
 
 typedef enum hv_number by_position(const uint8_t *, size_t, const uint8_t *, size_t, uint64_t, uint64_t, uint8_t *, size_t,
                                    uint64_t *, size_t);
-by_position REAL(hv_place), SHIM(hv_place), REAL(hv_place_in_bucket), SHIM(hv_place_in_bucket), REAL(hv_view), SHIM(hv_view);
+by_position REAL(hv_place), SHIM(hv_place), REAL(hv_place_in_bucket), SHIM(hv_place_in_bucket), REAL(hv_view), SHIM(hv_view),
+    REAL(hv_padded_view), SHIM(hv_padded_view);
 
 static enum hv_number positioned(struct lent *lent, by_position *real, const uint8_t *table, size_t table_len,
                                  const uint8_t *file, size_t file_len, uint64_t row, uint64_t position)
@@ -241,17 +242,113 @@ enum hv_number SHIM(hv_place_in_bucket)(const uint8_t *table, size_t table_len, 
     return number;
 }
 
+/* How many bytes stand before the first zero byte. */
+static uint64_t before_zero(const uint8_t *bytes, uint64_t len)
+{
+    const uint8_t *zero = len > 0 ? memchr(bytes, 0, len) : NULL;
+
+    return zero != NULL ? (uint64_t)(zero - bytes) : len;
+}
+
+/*
+ * The length of a padded text made wrong: `most` is its maximum, and `there` how many bytes there are up to the file's end. The right
+ * one, for a padded view, is wrong too: view-trimmed.
+ */
+static uint64_t text_length(const char *function, const uint8_t *cell, uint64_t most, uint64_t there)
+{
+    uint64_t right = before_zero(cell, most), end = right;
+
+    /* Nothing is cut off; a zero byte is kept; the last byte of a text that fills its cell is not. */
+    if (is("view-padded", function))
+        return most;
+    if (is("view-zero-kept", function))
+        return right < most ? right + 1 : right;
+    if (is("view-last-lost", function))
+        return right == most ? right - 1 : right;
+    /* The search goes on behind the cell; it leaves out the last bytes, fewer than eight; it goes no further than 255 bytes. */
+    if (is("view-past-cell", function))
+        return before_zero(cell, there);
+    if (is("view-eights", function))
+        return right < most / 8 * 8 ? right : most;
+    if (is("view-255", function))
+        return right <= 255 ? right : most;
+    /* Zeros are cut off at the end alone; one that another byte follows ends nothing; spaces are cut off too. */
+    if (is("view-last-run", function))
+        for (end = most; end > 0 && cell[end - 1] == 0; end--)
+            continue;
+    if (is("view-two-zeros", function))
+        while (end + 1 < most && cell[end + 1] != 0)
+            end += 1 + before_zero(cell + end + 1, most - end - 1);
+    if (is("view-spaces", function))
+        while (end > 0 && cell[end - 1] == ' ')
+            end--;
+    return end;
+}
+
+/* Whether another column than that of padded texts is to be cut off like one. */
+static int is_cut_off(const char *function, const uint64_t *column)
+{
+    int is_string = column[HV_COLUMN_DATA_TYPE] == HV_TYPE_STRING, is_array = column[HV_COLUMN_ARRAY] != 0;
+
+    return (is("view-variable", function) && is_string && !is_array) || (is("view-array", function) && is_string && is_array) ||
+           (is("view-others", function) && !is_string);
+}
+
+/* An accepted view, which is right, made wrong in what it shows of the cell. */
+static enum hv_number other_view(struct lent *lent, enum hv_number number, const uint8_t *table, size_t table_len,
+                                 const uint8_t *file, size_t file_len, uint64_t row, uint64_t position)
+{
+    static uint8_t room[HV_ROOM_MOST];
+    const char *function = lent->function;
+    uint64_t column[HV_COLUMN_LEN], view[HV_VIEW_LEN];
+    const uint8_t *cell;
+    int is_padded;
+
+    if (number != HV_ACCEPTED || strncmp(fault.kind, "view-", 5) != 0 || strcmp(fault.function, function) != 0)
+        return number;
+    REAL(hv_column)(table, table_len, position, column, HV_COLUMN_LEN);
+    REAL(hv_padded_view)(table, table_len, file, file_len, row, position, room, sizeof room, view, HV_VIEW_LEN);
+    cell = file + view[HV_VIEW_START];
+    is_padded = column[HV_COLUMN_DATA_TYPE] == HV_TYPE_STRING && column[HV_COLUMN_ARRAY] == 0 && column[HV_COLUMN_STRING_MOST] > 0;
+    if (is_padded)
+        view[HV_VIEW_LENGTH] = text_length(function, cell, view[HV_VIEW_LENGTH], file_len - view[HV_VIEW_START]);
+    else if (is_cut_off(function, column))
+        view[HV_VIEW_LENGTH] = before_zero(cell, view[HV_VIEW_LENGTH]);
+    if (view[HV_VIEW_LENGTH] == 0) {
+        /* An empty text is refused, or begins at 0 or at the cell's end. */
+        if (is("view-empty-refused", function))
+            return HV_REFUSED_VALUE;
+        if (is("view-empty-at-0", function))
+            view[HV_VIEW_START] = 0;
+        if (is("view-empty-at-end", function))
+            view[HV_VIEW_START] += column[HV_COLUMN_STRING_MOST];
+    }
+    memcpy(lent->out, view, (lent->out_len < 2 ? lent->out_len : 2) * sizeof *view);
+    return number;
+}
+
 enum hv_number SHIM(hv_view)(const uint8_t *table, size_t table_len, const uint8_t *file, size_t file_len, uint64_t row,
                              uint64_t position, uint8_t *room, size_t room_len, uint64_t *out, size_t out_len)
 {
     struct lent lent = {"hv_view", HV_VIEW_LEN, room, room_len, out, out_len, {0}};
+    enum hv_number number = positioned(&lent, REAL(hv_view), table, table_len, file, file_len, row, position);
 
-    return positioned(&lent, REAL(hv_view), table, table_len, file, file_len, row, position);
+    return other_view(&lent, number, table, table_len, file, file_len, row, position);
+}
+
+enum hv_number SHIM(hv_padded_view)(const uint8_t *table, size_t table_len, const uint8_t *file, size_t file_len, uint64_t row,
+                                    uint64_t position, uint8_t *room, size_t room_len, uint64_t *out, size_t out_len)
+{
+    struct lent lent = {"hv_padded_view", HV_VIEW_LEN, room, room_len, out, out_len, {0}};
+    enum hv_number number = positioned(&lent, REAL(hv_padded_view), table, table_len, file, file_len, row, position);
+
+    return other_view(&lent, number, table, table_len, file, file_len, row, position);
 }
 
 typedef enum hv_number by_plan(const uint8_t *, size_t, const uint8_t *, size_t, uint64_t, const uint64_t *, size_t,
                                uint8_t *, size_t, uint64_t *, size_t);
-by_plan REAL(hv_place_planned), SHIM(hv_place_planned), REAL(hv_view_planned), SHIM(hv_view_planned);
+by_plan REAL(hv_place_planned), SHIM(hv_place_planned), REAL(hv_view_planned), SHIM(hv_view_planned),
+    REAL(hv_padded_view_planned), SHIM(hv_padded_view_planned);
 
 static enum hv_number planned(struct lent *lent, by_plan *real, const uint8_t *table, size_t table_len, const uint8_t *file,
                               size_t file_len, uint64_t row, const uint64_t *plan, size_t plan_len)
@@ -296,8 +393,19 @@ enum hv_number SHIM(hv_view_planned)(const uint8_t *table, size_t table_len, con
                                      uint64_t *out, size_t out_len)
 {
     struct lent lent = {"hv_view_planned", HV_VIEW_LEN, room, room_len, out, out_len, {0}};
+    enum hv_number number = planned(&lent, REAL(hv_view_planned), table, table_len, file, file_len, row, plan, plan_len);
 
-    return planned(&lent, REAL(hv_view_planned), table, table_len, file, file_len, row, plan, plan_len);
+    return other_view(&lent, number, table, table_len, file, file_len, row, plan_len > 0 ? plan[HV_PLAN_POSITION] : 0);
+}
+
+enum hv_number SHIM(hv_padded_view_planned)(const uint8_t *table, size_t table_len, const uint8_t *file, size_t file_len,
+                                            uint64_t row, const uint64_t *plan, size_t plan_len, uint8_t *room, size_t room_len,
+                                            uint64_t *out, size_t out_len)
+{
+    struct lent lent = {"hv_padded_view_planned", HV_VIEW_LEN, room, room_len, out, out_len, {0}};
+    enum hv_number number = planned(&lent, REAL(hv_padded_view_planned), table, table_len, file, file_len, row, plan, plan_len);
+
+    return other_view(&lent, number, table, table_len, file, file_len, row, plan_len > 0 ? plan[HV_PLAN_POSITION] : 0);
 }
 
 uint64_t REAL(hv_element_bits)(uint64_t);

@@ -101,6 +101,31 @@ extern "C" {
         out: *mut u64,
         out_len: usize,
     ) -> u32;
+    fn hv_padded_view(
+        table: *const u8,
+        table_len: usize,
+        file: *const u8,
+        file_len: usize,
+        row: u64,
+        position: u64,
+        room: *mut u8,
+        room_len: usize,
+        out: *mut u64,
+        out_len: usize,
+    ) -> u32;
+    fn hv_padded_view_planned(
+        table: *const u8,
+        table_len: usize,
+        file: *const u8,
+        file_len: usize,
+        row: u64,
+        plan: *const u64,
+        plan_len: usize,
+        room: *mut u8,
+        room_len: usize,
+        out: *mut u64,
+        out_len: usize,
+    ) -> u32;
     fn hv_element_bits(number: u64) -> u64;
 }
 
@@ -159,10 +184,13 @@ pub enum Question<'a> {
     PlaceInBucket { row: u64, position: u64 },
     View { row: u64, position: u64 },
     ViewPlanned { row: u64, plan: &'a [u64] },
+    PaddedView { row: u64, position: u64 },
+    PaddedViewPlanned { row: u64, plan: &'a [u64] },
 }
 
 use Question::{
-    Check, Column, ColumnByName, Description, Manager, Place, PlaceInBucket, PlacePlanned, Plan, View, ViewPlanned,
+    Check, Column, ColumnByName, Description, Manager, PaddedView, PaddedViewPlanned, Place, PlaceInBucket, PlacePlanned, Plan,
+    View, ViewPlanned,
 };
 
 impl Question<'_> {
@@ -180,6 +208,8 @@ impl Question<'_> {
             PlaceInBucket { .. } => "hv_place_in_bucket",
             View { .. } => "hv_view",
             ViewPlanned { .. } => "hv_view_planned",
+            PaddedView { .. } => "hv_padded_view",
+            PaddedViewPlanned { .. } => "hv_padded_view_planned",
         }
     }
 
@@ -194,7 +224,7 @@ impl Question<'_> {
             Plan { .. } => PLAN,
             Place { .. } | PlacePlanned { .. } => PLACE,
             PlaceInBucket { .. } => IN_BUCKET,
-            View { .. } | ViewPlanned { .. } => VIEW,
+            View { .. } | ViewPlanned { .. } | PaddedView { .. } | PaddedViewPlanned { .. } => VIEW,
         }
     }
 
@@ -221,6 +251,10 @@ impl Question<'_> {
                 View { row, position } => hv_view(t, t_len, f, f_len, row, position, r, r_len, o, o_len),
                 ViewPlanned { row, plan } => {
                     hv_view_planned(t, t_len, f, f_len, row, plan.as_ptr(), plan.len(), r, r_len, o, o_len)
+                }
+                PaddedView { row, position } => hv_padded_view(t, t_len, f, f_len, row, position, r, r_len, o, o_len),
+                PaddedViewPlanned { row, plan } => {
+                    hv_padded_view_planned(t, t_len, f, f_len, row, plan.as_ptr(), plan.len(), r, r_len, o, o_len)
                 }
             }
         };
@@ -287,7 +321,7 @@ pub fn place_in_bucket(table: &[u8], file: &[u8], row: u64, position: u64, room:
     PlaceInBucket { row, position }.answer(table, file, room)
 }
 
-/// Where the part of the file that holds a cell starts, and its length in bytes.
+/// Where the part of the file that holds a cell starts, and its length in bytes; of a padded String that of its text.
 pub fn view(table: &[u8], file: &[u8], row: u64, position: u64, room: &mut [u8]) -> Viewed {
     View { row, position }.answer(table, file, room)
 }
@@ -295,6 +329,16 @@ pub fn view(table: &[u8], file: &[u8], row: u64, position: u64, room: &mut [u8])
 /// The same for the plan's column.
 pub fn view_planned(table: &[u8], file: &[u8], row: u64, plan: &[u64; PLAN_NUMBERS], room: &mut [u8]) -> Viewed {
     ViewPlanned { row, plan }.answer(table, file, room)
+}
+
+/// Where a cell starts, and its length in bytes, padding and all.
+pub fn padded_view(table: &[u8], file: &[u8], row: u64, position: u64, room: &mut [u8]) -> Viewed {
+    PaddedView { row, position }.answer(table, file, room)
+}
+
+/// The same for the plan's column.
+pub fn padded_view_planned(table: &[u8], file: &[u8], row: u64, plan: &[u64; PLAN_NUMBERS], room: &mut [u8]) -> Viewed {
+    PaddedViewPlanned { row, plan }.answer(table, file, room)
 }
 
 /// The bits of an element, from the number of its type. It is so short that a call around it would count in `bench`.
@@ -308,7 +352,7 @@ pub fn element_bits(number: u64) -> u64 {
 mod tests {
     use super::*;
 
-    const QUESTIONS: [Question<'static>; 11] = [
+    const QUESTIONS: [Question<'static>; 13] = [
         Description,
         Column { position: 0 },
         Manager { index: 0 },
@@ -320,6 +364,8 @@ mod tests {
         PlaceInBucket { row: 0, position: 0 },
         View { row: 0, position: 0 },
         ViewPlanned { row: 0, plan: &[0; PLAN_NUMBERS] },
+        PaddedView { row: 0, position: 0 },
+        PaddedViewPlanned { row: 0, plan: &[0; PLAN_NUMBERS] },
     ];
 
     // A refusal writes zeros and the byte, as many numbers as the answer has or as fit, and clears the room.
@@ -363,7 +409,9 @@ mod tests {
     fn short_plan() {
         for plan_len in 0..PLAN_NUMBERS {
             let plan = &[0; PLAN_NUMBERS][..plan_len];
-            for question in [PlacePlanned { row: 0, plan }, ViewPlanned { row: 0, plan }] {
+            for question in
+                [PlacePlanned { row: 0, plan }, ViewPlanned { row: 0, plan }, PaddedViewPlanned { row: 0, plan }]
+            {
                 let (mut out, mut room) = ([7; 3], [7; 5]);
                 let number = question.ask(&[], &[], &mut room, &mut out);
                 assert_eq!((number, out, room), (SHORT, [7; 3], [7; 5]), "{question:?}");

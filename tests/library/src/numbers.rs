@@ -5,7 +5,7 @@ use crate::Question::{self, *};
 use crate::{fields, PLAN_NUMBERS, SHORT};
 use model::numbers::{self, written};
 use model::Refusal;
-use std::collections::BTreeMap;
+use std::collections::{BTreeMap, BTreeSet};
 use std::fmt::{self, Write as _};
 use std::path::{Path, PathBuf};
 use std::process::ExitCode;
@@ -13,6 +13,7 @@ use writer::buckets::{BucketFile, Subject};
 use writer::questions::Asked;
 use writer::rng::Rng;
 use writer::sets::Set;
+use writer::texts::{self, Of};
 use writer::{file_cases, large_files, sets, small_file};
 
 const OUT_FILL: u64 = 0xA5A5_A5A5_A5A5_A5A5;
@@ -149,6 +150,10 @@ impl Expected {
             ViewPlanned { row, plan } => {
                 Self::planned(plan, |plan| numbers::view_planned(table, file, row, plan, room))
             }
+            PaddedView { row, position } => Self::new(numbers::padded_view(table, file, row, position, room)),
+            PaddedViewPlanned { row, plan } => {
+                Self::planned(plan, |plan| numbers::padded_view_planned(table, file, row, plan, room))
+            }
         }
     }
 
@@ -170,6 +175,8 @@ pub struct Comparison {
     largest: BTreeMap<&'static str, u64>,
     /// How many places were given in one bucket of files that are refused.
     accepted_in_part: u64,
+    /// The functions that gave an accepted view of no bytes.
+    empty: BTreeSet<&'static str>,
 }
 
 impl Comparison {
@@ -216,6 +223,9 @@ impl Comparison {
         if expected.number == 0 {
             let largest = self.largest.entry(function).or_default();
             *largest = expected.numbers[0].max(*largest);
+            if function.contains("view") && expected.numbers[1] == 0 {
+                self.empty.insert(function);
+            }
         }
     }
 
@@ -286,6 +296,8 @@ impl Comparison {
                 ask(room, PlaceInBucket { row, position })?;
                 ask(room, View { row, position })?;
                 ask(room, ViewPlanned { row, plan })?;
+                ask(room, PaddedView { row, position })?;
+                ask(room, PaddedViewPlanned { row, plan })?;
             }
         }
 
@@ -315,6 +327,8 @@ impl Comparison {
             ask(room, PlaceInBucket { row, position })?;
             ask(room, View { row, position })?;
             ask(room, ViewPlanned { row, plan })?;
+            ask(room, PaddedView { row, position })?;
+            ask(room, PaddedViewPlanned { row, plan })?;
         }
         for room in [room + 9, room.saturating_sub(1), 0] {
             ask(room, Plan { position: fresh[0] })?;
@@ -323,6 +337,8 @@ impl Comparison {
             ask(room, PlaceInBucket { row, position: fresh[0] })?;
             ask(room, View { row, position: fresh[0] })?;
             ask(room, ViewPlanned { row, plan: &fresh })?;
+            ask(room, PaddedView { row, position: fresh[0] })?;
+            ask(room, PaddedViewPlanned { row, plan: &fresh })?;
         }
         for number in 0..PLAN_NUMBERS {
             for other in [fresh[number] + 1, fresh[number] + (1 << 32), fresh[number] ^ 1 << rng.below(64), 0] {
@@ -330,6 +346,7 @@ impl Comparison {
                 plan[number] = other;
                 ask(room, PlacePlanned { row, plan: &plan })?;
                 ask(room, ViewPlanned { row, plan: &plan })?;
+                ask(room, PaddedViewPlanned { row, plan: &plan })?;
             }
         }
         for plan_len in 0..=PLAN_NUMBERS + LONGER_PLAN {
@@ -338,10 +355,26 @@ impl Comparison {
             for row in [row, row_count] {
                 ask(room, PlacePlanned { row, plan: &plan[..plan_len] })?;
                 ask(room, ViewPlanned { row, plan: &plan[..plan_len] })?;
+                ask(room, PaddedViewPlanned { row, plan: &plan[..plan_len] })?;
             }
         }
         self.accepted_in_part += accepted_in_part;
         Ok(())
+    }
+
+    /// A question about texts and their padding.
+    fn text(&mut self, case: &texts::Case) -> Compared {
+        let row = case.row;
+        let question = match (case.word, &case.of) {
+            ("place", Of::Position(position)) => Place { row, position: *position },
+            ("placeplan", Of::Plan(plan)) => PlacePlanned { row, plan },
+            ("view", Of::Position(position)) => View { row, position: *position },
+            ("viewplan", Of::Plan(plan)) => ViewPlanned { row, plan },
+            ("padded", Of::Position(position)) => PaddedView { row, position: *position },
+            ("paddedplan", Of::Plan(plan)) => PaddedViewPlanned { row, plan },
+            (word, of) => panic!("{word} with {of:?} is no question"),
+        };
+        self.ask(&case.files.table, &case.files.file, case.room, question)
     }
 
     /// The bits of an element, from a type's number.
@@ -363,8 +396,8 @@ impl Comparison {
     }
 
     /// What must have been asked: each function accepted, and refused with each number that the header names for it, with
-    /// those from 1 to 7 at a byte above 0 too; a place in one bucket of a file that is refused; of the bits of an element, every
-    /// size.
+    /// those from 1 to 7 at a byte above 0 too; a place in one bucket of a file that is refused; an empty text, which no padded
+    /// view is; of the bits of an element, every size.
     fn missing(&self) -> Vec<String> {
         let of_file = [1, 2, 3, 4, 5, 6, 7, 8, 10, 11, 13];
         let (of_table, of_position) = (&of_file[..7], &of_file[..8]);
@@ -381,11 +414,17 @@ impl Comparison {
             ("hv_place_in_bucket", [of_position, &[9, 10, 11]].concat()),
             ("hv_view", with(&[9, 14])),
             ("hv_view_planned", with(&[9, 12, 14, SHORT])),
+            ("hv_padded_view", with(&[9, 14])),
+            ("hv_padded_view_planned", with(&[9, 12, 14, SHORT])),
             ("hv_element_bits", vec![1, 8, 16, 32, 64, 128]),
         ];
         let mut missing = Vec::new();
         if self.accepted_in_part == 0 {
             missing.push("hv_place_in_bucket gave no place in a file that is refused".to_string());
+        }
+        let empty = BTreeSet::from(["hv_view", "hv_view_planned"]);
+        if self.empty != empty {
+            missing.push(format!("{empty:?} are to give an empty text, and {:?} did", self.empty));
         }
         for (function, numbers) in needed {
             let given: Vec<u64> =
@@ -411,7 +450,7 @@ impl Comparison {
         self.largest.clear();
         self.file(case, rng).map_err(|difference| difference.to_string())?;
         for function in functions {
-            let in_bytes = if function.starts_with("hv_view") { 1 } else { 8 };
+            let in_bytes = if function.contains("view") { 1 } else { 8 };
             if self.largest.get(function).is_none_or(|largest| largest / in_bytes <= 1 << 32) {
                 return Err(format!("{function} gave no cell above 4 GiB"));
             }
@@ -508,9 +547,13 @@ fn compare(comparison: &mut Comparison, seed: u64, count: u64) -> Result<(), Str
     for (number, (path, case)) in (0..).zip(samples()) {
         comparison.file(&case, &mut rng(number)).map_err(|d| format!("{}: {d}", path.display()))?;
     }
+    for (number, case) in (0..).zip(texts::cases()) {
+        at("texts", number, comparison.text(&case))?;
+    }
     // Above 4 GiB: few bytes of each file are not zero, and memory that is not touched costs nothing. One file at a time.
     let places = ["hv_place", "hv_place_planned"];
-    let all = ["hv_place", "hv_place_planned", "hv_view", "hv_view_planned"];
+    let views = ["hv_view", "hv_view_planned", "hv_padded_view", "hv_padded_view_planned"];
+    let all = [&places[..], &views].concat();
     let incremental = [&all[..], &["hv_place_in_bucket"]].concat();
     for endianness in [0, 1] {
         let above: [(&dyn Fn() -> Case, &[&str]); 3] = [

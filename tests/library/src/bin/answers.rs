@@ -156,6 +156,12 @@ fn answer(program: &str, line: &str) -> io::Result<Option<String>> {
         ["viewplan", table, file, row, plan, room] => {
             cell([table, file, row, room], plan_of(plan).as_ref(), library::view_planned, view_text)
         }
+        ["padded", table, file, row, position, room] => {
+            cell([table, file, row, room], number(position), library::padded_view, view_text)
+        }
+        ["paddedplan", table, file, row, plan, room] => {
+            cell([table, file, row, room], plan_of(plan).as_ref(), library::padded_view_planned, view_text)
+        }
         // A negative number is asked as C passes it, by its 64 bits.
         ["elementbits", field] => signed(field).map(|number| format!("ok {}", library::element_bits(number as u64))),
         _ => None,

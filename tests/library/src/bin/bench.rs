@@ -9,7 +9,7 @@ use writer::cells;
 use writer::incremental::{DataBucket, IncrementalFile, Values};
 use writer::lean;
 use writer::standard::{Index, StandardFile};
-use writer::table::{Column, Manager, BOOL, DOUBLE, FLOAT, INT, SHORT};
+use writer::table::{Column, Manager, BOOL, DOUBLE, FLOAT, INT, SHORT, STRING};
 
 const ROUNDS: usize = 300;
 
@@ -161,18 +161,40 @@ impl Files {
 
     /// View of the last row.
     fn view(&self) {
+        self.part(library::view, model::view);
+    }
+
+    /// Padded view of the last row.
+    fn padded_view(&self) {
+        self.part(library::padded_view, model::padded_view);
+    }
+
+    /// The part of the file that holds the cell of the last row, or its text.
+    fn part(
+        &self,
+        library: impl Fn(&[u8], &[u8], u64, u64, &mut [u8]) -> Result<[u64; library::VIEW], library::Refusal>,
+        model: impl for<'a> Fn(&[u8], &'a [u8], u64, u64, &mut [u8]) -> Result<&'a [u8], model::Refusal>,
+    ) {
         let Self { table, file, column, rows, .. } = self;
         let (mut room, mut other) = (vec![0; self.room], vec![0; self.room]);
         let row = rows - 1;
-        let ours = library::view(table, file, row, *column, &mut room);
-        let theirs = model::view(table, file, row, *column, &mut other);
+        let ours = library(table, file, row, *column, &mut room);
+        let theirs = model(table, file, row, *column, &mut other);
         assert_eq!(ours.ok().map(|[_, length, _]| length), theirs.ok().map(|part| part.len() as u64), "{}", self.what);
         compare(
             self.what,
             self.calls,
-            || _ = black_box(library::view(black_box(table), black_box(file), row, *column, &mut room)),
-            || _ = black_box(model::view(black_box(table), black_box(file), row, *column, &mut other)),
+            || _ = black_box(library(black_box(table), black_box(file), row, *column, &mut room)),
+            || _ = black_box(model(black_box(table), black_box(file), row, *column, &mut other)),
         );
+    }
+
+    /// The last row's cell is a text without a zero byte.
+    fn full(mut self) -> Self {
+        let cell = library::padded_view(&self.table, &self.file, self.rows - 1, self.column, &mut vec![0; self.room]);
+        let [start, length, _] = cell.expect("a cell");
+        self.file[start as usize..][..length as usize].fill(b'A');
+        self
     }
 
     /// Some of the rows, over the whole of the table.
@@ -262,8 +284,17 @@ fn main() {
     files[5..].iter().chain([&more]).for_each(Files::place_in_bucket);
     title("Place by a plan in");
     files.iter().for_each(Files::place_planned);
+    // The whole of the text is looked at for a zero byte.
+    let texts = [
+        Files::new("a text of 64 bytes, which is its maximum", &one_text(64), 0, 1_000).full(),
+        Files::new("a text of 65,536 bytes, which is its maximum", &one_text(65_536), 0, 20).full(),
+    ];
     title("View in");
     files.iter().for_each(Files::view);
+    title("View of");
+    texts.iter().for_each(Files::view);
+    title("Padded view of");
+    texts.iter().for_each(Files::padded_view);
 }
 
 /// The first accepted table of the writer's large ones that has 64 columns and is near 65,536 bytes.
@@ -332,6 +363,18 @@ fn large_buckets() -> Subject<StandardFile> {
     let buckets = Buckets::new("StandardStMan", 3, 1, 32_768, DATA + 1);
     let file = StandardFile::new(buckets, vec![DATA], vec![index]);
     let table = lean::bare((DATA * PER).into(), 1, placed(0, &kinds, PER), vec![Manager::new("StandardStMan", 0)]);
+    Subject { table, number: 0, file }
+}
+
+/// A String with this maximum in 8 rows, two in each bucket; then the index bucket.
+fn one_text(maximum: u32) -> Subject<StandardFile> {
+    const PER: u32 = 2;
+    const DATA: u32 = 4;
+    let text = [Column::scalar(STRING, "").string_maximum(maximum)];
+    let index = Index::new(PER, text.len(), &entries(PER, 0..DATA));
+    let buckets = Buckets::new("StandardStMan", 3, 1, PER * maximum, DATA + 1);
+    let file = StandardFile::new(buckets, vec![DATA], vec![index]);
+    let table = lean::bare((DATA * PER).into(), 1, placed(0, &text, PER), vec![Manager::new("StandardStMan", 0)]);
     Subject { table, number: 0, file }
 }
 
