@@ -9,7 +9,7 @@ ghost use Rattle.table_rules.specs.DataType.{elementBits};
 ghost use Rattle.table_rules.specs.Table.{describedAs, columnNamed, positionRefusal};
 ghost use Rattle.c_numbers.specs.Answers.{written, summaryOf, columnRefusal, columnNumbers, managerRefusal, managerNumbers, positionNumbers, ifNine};
 ghost use Rattle.lookup_rules.specs.Questions.{answerOf, roomAfter};
-ghost use Rattle.lookup_rules.specs.Views.{paddedOf, viewOf, partOf};
+ghost use Rattle.lookup_rules.specs.Views.{paddedOf, viewOf, viewBy};
 ghost use Rattle.c_numbers.specs.Numbers.{checkNumbers, planNumbers, placeNumbers, viewNumbers, inBucketNumbers, planFrom};
 use lookup_rules::Asked;
 use lookup_rules::Question;
@@ -133,7 +133,7 @@ fn answer_view(
     room: &mut [u8],
     out: &mut [u64],
 ) -> u64
-    ensures { λ r. ⌜ (r ≡ answerOf (now (table .entry)) (now (file .entry)) q (length (now (room .entry))) .refused .number) × (now (out .exit) ≡ written (viewNumbers (answerOf (now (table .entry)) (now (file .entry)) q (length (now (room .entry)))) (length (partOf padded (now (file .entry)) (answerOf (now (table .entry)) (now (file .entry)) q (length (now (room .entry))))))) (now (out .entry))) × (now (room .exit) ≡ roomAfter (now (table .entry)) (now (file .entry)) q (length (now (room .entry)))) ⌝ }
+    ensures { λ r. ⌜ (r ≡ answerOf (now (table .entry)) (now (file .entry)) q (length (now (room .entry))) .refused .number) × (now (out .exit) ≡ written (viewNumbers (answerOf (now (table .entry)) (now (file .entry)) q (length (now (room .entry)))) (length (viewBy padded (now (file .entry)) (answerOf (now (table .entry)) (now (file .entry)) q (length (now (room .entry))))))) (now (out .entry))) × (now (room .exit) ≡ roomAfter (now (table .entry)) (now (file .entry)) q (length (now (room .entry)))) ⌝ }
 {
     let a = lookup::ask::ask(table, file, q, room);
     let part = lookup_question::types::part_of(file, a, padded);

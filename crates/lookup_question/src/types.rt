@@ -5,7 +5,7 @@ ghost use lib.ListN.{length, take, drop};
 ghost use denote.Ref.{ptr};
 ghost use Rattle.table_rules.specs.ColumnDesc.{isPadded};
 ghost use Rattle.lookup_rules.specs.Answers.{verdictOf, plannedOf, placedOf, placedInBucketOf};
-ghost use Rattle.lookup_rules.specs.Views.{partOf};
+ghost use Rattle.lookup_rules.specs.Views.{viewBy};
 use lookup_rules::Answer;
 use lookup_rules::Placed;
 use lookup_rules::PlacedInBucket;
@@ -89,7 +89,7 @@ pub fn is_padded(c: Column) -> bool
 // The part of the file that an answer's bits fill, the whole cell; not padded, it is a text's alone, where the column has texts. The
 // empty part where the answer is a refusal.
 pub fn part_of(file: &[u8], a: Answer, padded: bool) -> &[u8]
-    ensures { λ r. ⌜ (now r ≡ partOf padded (now (file .entry)) a) × (ptr r ≡ (ptr (file .entry) .0, ptr (file .entry) .1 + length (take (a .first / 8) (now (file .entry))))) ⌝ }
+    ensures { λ r. ⌜ (now r ≡ viewBy padded (now (file .entry)) a) × (ptr r ≡ (ptr (file .entry) .0, ptr (file .entry) .1 + length (take (a .first / 8) (now (file .entry))))) ⌝ }
 {
     let whole = part_from(file, a.first / 8, a.count / 8);
     if padded {

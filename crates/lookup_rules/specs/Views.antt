@@ -26,8 +26,8 @@ unfoldable pub viewOf : List ℕ → Answer → List ℕ
 viewOf f a = let whole = paddedOf f a in cond (isPadded (a .column)) (beforeZero whole) whole
 
 -- either of them, as a question asks for it
-unfoldable pub partOf : Bool → List ℕ → Answer → List ℕ
-partOf padded f a = cond padded (paddedOf f a) (viewOf f a)
+unfoldable pub viewBy : Bool → List ℕ → Answer → List ℕ
+viewBy padded f a = cond padded (paddedOf f a) (viewOf f a)
 
 -- ---- what holds of the padded view
 -- The bits of an answer are whole bytes, and the file has them all.

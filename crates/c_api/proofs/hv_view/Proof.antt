@@ -1,12 +1,12 @@
 -- `c_api::hv_view` meets its contract.
 use borrow.Author.Needs.{needs}
 use Rattle.bytes_at.proofs.Stepped.{free}
-use Rattle.lookup_rules.specs.Views.{partOf}
+use Rattle.lookup_rules.specs.Views.{viewBy}
 use Rattle.c_api.proofs.hv_view.Statement.{statement}
 use Rattle.c_api.proofs.hv_view.Tie as tie
 
 returns : tie.Need-returns
-unfolding partOf
+unfolding viewBy
 returns c = c .before .before .before .before .answer-view .ensures
 
 pub hv-view-spec : {M : Type 1} → statement M

@@ -2,7 +2,7 @@
 use native.Mathlib.Omega.{arith}
 use borrow.Author.Needs.{needs}
 use Rattle.bytes_at.proofs.Stepped.{free}
-use Rattle.lookup_rules.specs.Views.{partOf}
+use Rattle.lookup_rules.specs.Views.{viewBy}
 use Rattle.c_api.proofs.Laws.{unplanned, planned}
 use Rattle.c_api.proofs.hv_view_planned.Statement.{statement}
 use Rattle.c_api.proofs.hv_view_planned.Tie as tie
@@ -11,7 +11,7 @@ returns : tie.Need-returns
 returns c = (unplanned _ _ _ (omega arith), unplanned _ _ _ (omega arith), unplanned _ _ _ (omega arith))
 
 returns-2 : tie.Need-returns-2
-unfolding partOf
+unfolding viewBy
 returns-2 c =
     let p = c .before .before .before .before .before .before .before .plan-from .ensures in
     let told = c .before .before .before .before .answer-view .ensures in (

@@ -5,13 +5,13 @@ use denote.Ref.{now, ptr}
 use lib.ListN.{length}
 use Rattle.bytes_at.proofs.Stepped.{free}
 use Rattle.lookup_rules.specs.declared.Asked.the-variants.{Planned}
-use Rattle.lookup_rules.specs.Views.{paddedOf, partOf}
+use Rattle.lookup_rules.specs.Views.{paddedOf, viewBy}
 use Rattle.lookup.proofs.Begins.{begins}
 use Rattle.lookup.proofs.padded_view_planned.Statement.{statement}
 use Rattle.lookup.proofs.padded_view_planned.Tie as tie
 
 returns : tie.Need-returns
-unfolding partOf
+unfolding viewBy
 returns c =
     let a = c .before .before .before .before .before .before .before .before .args in (
       c .part-of .ensures .0 ∙ ap (paddedOf _) (c .before .before .before .ask .ensures .0),

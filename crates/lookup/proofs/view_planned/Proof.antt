@@ -5,14 +5,14 @@ use denote.Ref.{now, ptr}
 use lib.ListN.{length}
 use Rattle.bytes_at.proofs.Stepped.{free}
 use Rattle.lookup_rules.specs.declared.Asked.the-variants.{Planned}
-use Rattle.lookup_rules.specs.Views.{viewOf, partOf}
+use Rattle.lookup_rules.specs.Views.{viewOf, viewBy}
 use Rattle.lookup_rules.proofs.Texts.{viewed}
 use Rattle.lookup.proofs.Begins.{begins}
 use Rattle.lookup.proofs.view_planned.Statement.{statement}
 use Rattle.lookup.proofs.view_planned.Tie as tie
 
 returns : tie.Need-returns
-unfolding partOf
+unfolding viewBy
 returns c =
     let a = c .before .before .before .before .before .before .before .before .args in
     let asked = c .before .before .before .ask .ensures in

@@ -2,16 +2,16 @@
 use mathlib.Core.Path.{ap, _∙_}
 use Rattle.bytes_at.specs.Bytes.{beforeZero}
 use Rattle.bytes_at.proofs.Stepped.{free}
-use Rattle.lookup_rules.specs.Views.{paddedOf, viewOf, partOf}
+use Rattle.lookup_rules.specs.Views.{paddedOf, viewOf, viewBy}
 use Rattle.lookup_question.proofs.types.part_of.Statement.{statement}
 use Rattle.lookup_question.proofs.types.part_of.Tie as tie
 
 returns : tie.Need-returns
-unfolding partOf paddedOf
+unfolding viewBy paddedOf
 returns c = (rw (c .if1 .taken) (c .before .part-from .ensures .0), c .before .part-from .ensures .1)
 
 returns-2 : tie.Need-returns-2
-unfolding partOf viewOf paddedOf
+unfolding viewBy viewOf paddedOf
 returns-2 c =
     let part = c .before .before .before .before .before .part-from .ensures in (
       rw (c .before .before .before .before .if1 .left, ← (c .before .before .is-padded .ensures), c .before .if2 .taken)
@@ -20,7 +20,7 @@ returns-2 c =
     )
 
 returns-3 : tie.Need-returns-3
-unfolding partOf viewOf paddedOf
+unfolding viewBy viewOf paddedOf
 returns-3 c =
     let part = c .before .before .before .before .part-from .ensures in
     (rw (c .before .before .before .if1 .left, ← (c .before .is-padded .ensures), c .if2 .left) (part .0), part .1)
