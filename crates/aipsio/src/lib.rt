@@ -1,5 +1,7 @@
 // The cursor through which the fields of AipsIO (Note 260, section 2) are read. It goes by value and keeps its first refusal: a read
 // after a refusal leaves the cursor as it is and gives 0, and a refused read leaves the place where the failing field begins.
+#![tactic(auto)]
+
 pub mod numbers;
 pub mod objects;
 pub mod strings;

@@ -1,5 +1,7 @@
 // The rules of AipsIO (RULES.md 3; Note 260, 2), as definitions over the bytes: `specs/`. Here stand the types that they speak
 // of. The code that follows them is in `aipsio`.
+#![tactic(auto)]
+
 
 // Where the next field begins, where the enclosing object ends, whether the byte order is big endian, and the refusal number: 0
 // while there is none. After a refusal `at` is where the failing field begins, the byte of the refusal.

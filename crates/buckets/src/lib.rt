@@ -1,4 +1,6 @@
 // Buckets of a data manager's file: where one starts (RULES.md 5.2).
+#![tactic(auto)]
+
 pub mod file;
 pub mod free_list;
 pub mod marks;

@@ -1,4 +1,6 @@
 // Bytes: the numbers that stand in them, their parts, clearing and copying; and refusals, which tell the byte of a fault.
+#![tactic(auto)]
+
 pub mod text_at;
 
 ghost use Rattle.std.specs.Prelude.{◌≡◌, ◌≤◌, ◌<◌, ◌+◌, ◌-◌, min, get_or, length, take, drop, replicate, true, false, ◌&&◌, leb};

@@ -3,6 +3,8 @@
 // shorter `out` of an earlier version gets what it got then. Where it is refused they are zeros, but for the byte of the refusal, the
 // last of them today. A plan of fewer than nine numbers gives 255, and nothing is written, the room included. `hv_element_bits` alone
 // can not be refused: it has no `out`, and gives the bits.
+#![tactic(auto)]
+
 ghost use Rattle.std.specs.Prelude.{◌≡◌, length};
 ghost use Rattle.table_rules.specs.DataType.{element_bits};
 ghost use Rattle.table_rules.specs.Table.{described_as, column_named, position_refusal};

@@ -1,5 +1,7 @@
 // The questions about keywords for C, in the manner of `c_api`: numbers and lent slices, the refusal's number as the result, and
 // behind the numbers of each answer the byte.
+#![tactic(auto)]
+
 ghost use Rattle.std.specs.Prelude.{◌≡◌};
 ghost use Rattle.c_numbers.specs.Answers.{written};
 ghost use Rattle.keyword_rules.specs.Keywords.{keyword_search};

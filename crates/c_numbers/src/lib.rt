@@ -1,5 +1,7 @@
 // Columns, managers, checks, plans, places and views as the numbers that C gets, each with the byte of its refusal last, and a plan
 // from its numbers.
+#![tactic(auto)]
+
 pub mod values;
 
 ghost use Rattle.std.specs.Prelude.{◌≡◌, ◌≤◌, length};

@@ -1,5 +1,7 @@
 // The check of an IncrementalStMan file, whole or of the row's bucket alone, which in the same pass finds the cell that is asked for
 // (RULES.md 6.5 and 6.7).
+#![tactic(auto)]
+
 pub mod cells;
 pub mod columns;
 pub mod header;

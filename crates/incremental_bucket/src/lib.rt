@@ -1,5 +1,7 @@
 // One bucket of an IncrementalStMan file (RULES.md 6.4; Note 260, 3.4.3: Data Bucket): its check, which in
 // the same pass finds the offset of the value that a row has in a column. No byte of the data part is read.
+#![tactic(auto)]
+
 pub mod offsets;
 pub mod values;
 

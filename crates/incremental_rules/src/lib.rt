@@ -1,6 +1,8 @@
 // The rules of IncrementalStMan files (RULES.md 6; Note 260, 3.4.3), as definitions over the bytes: `specs/`, in
 // the chapter's order; what both managers share stands in `standard_rules`. Here stand the types that they speak of. The code that
 // follows them is in `incremental_bucket` and `incremental`.
+#![tactic(auto)]
+
 use aipsio_rules::Cursor;
 use bytes_at::Refusal;
 

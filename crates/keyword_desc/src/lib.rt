@@ -1,4 +1,6 @@
 // RecordDesc (RULES.md 4.14; Note 260, section 2.4): the description of a record, which holds the descriptions of the records in it.
+#![tactic(auto)]
+
 ghost use Rattle.std.specs.Prelude.{◌≡◌};
 ghost use Rattle.keyword_rules.specs.RecordDesc.{may_hold, field_head_at, is_iposition, counted_at, shape_in_desc_at, specific_at, comment_at, type_desc_at};
 

@@ -1,6 +1,8 @@
 // The rules of keywords (RULES.md 4.12 to 4.17; Note 260, 2.1 and 2.4), as definitions over the bytes of table.dat: `specs/`, in
 // the chapter's order. Here stand the types that they speak of. The code that follows them is in `keyword_values`,
 // `keyword_desc` and `keywords`.
+#![tactic(auto)]
+
 use aipsio_rules::Cursor;
 use bytes_at::Refusal;
 

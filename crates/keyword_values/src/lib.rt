@@ -1,5 +1,7 @@
 // The values of keywords that hold no record (RULES.md 4.12 and 4.13; Note 260, sections 2 and 2.1): scalars, Strings, Table names and
 // Array objects, passed over through a cursor.
+#![tactic(auto)]
+
 ghost use Rattle.std.specs.Prelude.{◌≡◌, ◌≤◌, ◌<◌};
 ghost use Rattle.keyword_rules.specs.Values.{is_array_type, element_type, is_keyword_type, is_array_name, array_name_at, array_opened, origin_at, capped, length_into, lengths_at, strings_at, values_at, array_at, scalar_at, plain_at};
 

@@ -1,4 +1,6 @@
 // Keywords of a table and of its columns (RULES.md 4.16 and 4.17): the questions Keyword and Field.
+#![tactic(auto)]
+
 pub mod walk;
 
 ghost use Rattle.std.specs.Prelude.{◌≡◌, ◌+◌};

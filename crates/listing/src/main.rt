@@ -1,6 +1,8 @@
 // Reads a table.dat on standard input and prints its row count and its columns, or its refusal: the number and the byte. Where the
 // input can not be read to its end it prints nothing but a message on standard error, and a message too where standard output can
 // not be written.
+#![tactic(auto)]
+
 use bytes_at::Refusal;
 use libc::{STDERR_FILENO, STDIN_FILENO, STDOUT_FILENO};
 use table_rules::Column;

@@ -1,4 +1,6 @@
 // The public questions over a table and a data file (RULES.md 7), each one question to `lookup::ask::ask`.
+#![tactic(auto)]
+
 pub mod answer;
 pub mod ask;
 

@@ -1,5 +1,7 @@
 // The questions File check, Plan, Place and View (RULES.md 7), as definitions over the bytes of both files:
 // `specs/`. The code that answers them is in `lookup`.
+#![tactic(auto)]
+
 use bytes_at::Refusal;
 use standard_rules::Set;
 use table_rules::{Binding, Column};

@@ -1,4 +1,6 @@
 // All stages of a question over a table and a data file, in their order (RULES.md 7.2).
+#![tactic(auto)]
+
 pub mod planning;
 
 ghost use Rattle.std.specs.Prelude.{◌≡◌, ◌≤◌, ◌<◌, false, length};

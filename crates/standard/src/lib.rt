@@ -1,5 +1,7 @@
 // The check of a StandardStMan file (RULES.md 5.7). The columns of the table are lent by position, as
 // `columns` takes them.
+#![tactic(auto)]
+
 pub mod columns;
 pub mod extents;
 pub mod place;

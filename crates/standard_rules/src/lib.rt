@@ -1,5 +1,7 @@
 // The rules of StandardStMan files (RULES.md 5; Note 260, 3.4.2), as definitions over the bytes: `specs/`, in the
 // chapter's order. Here stand the types that they speak of. The code that follows them is in `standard_index` and `standard`.
+#![tactic(auto)]
+
 use aipsio_rules::Cursor;
 use bytes_at::Refusal;
 

@@ -1,4 +1,6 @@
 // table.dat (RULES.md 4; Note 260, 3.1): Description and Column by name.
+#![tactic(auto)]
+
 pub mod names;
 
 ghost use Rattle.std.specs.Prelude.{◌≡◌, ◌≤◌};

@@ -1,5 +1,7 @@
 // The rules of table.dat (RULES.md 4; Note 260, 3.1), as definitions over its bytes: `specs/`, in the chapter's order. Here
 // stand the types that they speak of, in the same order. The type of data types stands in `data_type` with its functions.
+#![tactic(auto)]
+
 pub mod data_type;
 
 use crate::data_type::DataType;

@@ -1,5 +1,7 @@
 // Demand 3 of what the functions answer: two places of one table and one data file, each asked by position or by plan and each
 // with its own index room.
+#![tactic(auto)]
+
 ghost use Rattle.std.specs.Prelude.{◌≡◌, length};
 ghost use Rattle.lookup_rules.specs.Questions.{answer_of, room_after};
 ghost use Rattle.lookup_rules.specs.declared.Question.TheVariants.{Place};
