@@ -40,11 +40,11 @@ unfolding string_at ◌>>=◌
 string_le s c low high = text_le _ _ (λ e. (judged_within _ _ _ low high 3 e).1)
 
 -- a result that is a definition's has the definition's bound
-pub at_most : {r x : Value} {high : ℕ} → x.value ≤ high → r ≡ x → (r ≡ x) × (r.value ≤ high)
-at_most h e = (e, rw e h)
+pub at_most : {r x : Value} {high : ℕ} → x.value ≤ high → r ≡ x → record { value : r ≡ x; bounded : r.value ≤ high }
+at_most h e = record { value = e; bounded = rw e h }
 
-pub long_at_most : {r x : Text} {high : ℕ} → x.len ≤ high → r ≡ x → (r ≡ x) × (r.len ≤ high)
-long_at_most h e = (e, rw e h)
+pub long_at_most : {r x : Text} {high : ℕ} → x.len ≤ high → r ≡ x → record { value : r ≡ x; bounded : r.len ≤ high }
+long_at_most h e = record { value = e; bounded = rw e h }
 
 pub bytes_some : {n : ℕ} (w : Width) → n ≡ bytes_of w → 0 < n
 bytes_some One e = omega arith

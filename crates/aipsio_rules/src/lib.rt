@@ -2,10 +2,9 @@
 // of. The code that follows them is in `aipsio`.
 #![tactic(auto)]
 
-
 // Where the next field begins, where the enclosing object ends, whether the byte order is big endian, and the refusal number: 0
 // while there is none. After a refusal `at` is where the failing field begins, the byte of the refusal.
-#[derive(Drop)]
+#[derive(Clone, Copy)]
 pub struct Cursor {
     pub at: usize,
     pub end: usize,
@@ -14,14 +13,14 @@ pub struct Cursor {
 }
 
 // A number that was read, 0 where the cursor is refused, and the cursor past it.
-#[derive(Drop)]
+#[derive(Clone, Copy)]
 pub struct Value {
     pub value: usize,
     pub next: Cursor,
 }
 
 // The bytes of a String, as a place in the file (zeros where the cursor is refused), and the cursor past it.
-#[derive(Drop)]
+#[derive(Clone, Copy)]
 pub struct Text {
     pub start: usize,
     pub len: usize,

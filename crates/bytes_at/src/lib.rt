@@ -11,14 +11,14 @@ ghost use Rattle.bytes_at.specs.Bytes.{first_zero, before_zero};
 
 // Why something is refused: its number (RULES.md 8.1), which is 0 where nothing is, and the byte at which the failing field begins
 // (RULES.md 8.5). Byte 0 is a place too, so the number alone tells whether anything is refused.
-#[derive(Drop)]
+#[derive(Clone, Copy)]
 pub struct Refusal {
     pub number: usize,
     pub byte: usize,
 }
 
 // How many bytes a number has.
-#[derive(Drop)]
+#[derive(Clone, Copy)]
 pub enum Width {
     One,
     Two,

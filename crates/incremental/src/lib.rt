@@ -18,7 +18,7 @@ use incremental_rules::{Checked, Header, Index};
 use table_rules::Description;
 
 // What the parts of a file before its buckets tell: the bucket size and the index; zeros and the refusal where one is refused.
-#[derive(Drop)]
+#[derive(Clone, Copy)]
 pub struct Parts {
     pub refused: Refusal,
     pub size: usize,

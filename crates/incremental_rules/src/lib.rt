@@ -7,7 +7,7 @@ use aipsio_rules::Cursor;
 use bytes_at::Refusal;
 
 // The header's fields, and the cursor past them.
-#[derive(Drop)]
+#[derive(Clone, Copy)]
 pub struct HeaderFields {
     pub size: usize,
     pub count: usize,
@@ -17,7 +17,7 @@ pub struct HeaderFields {
 }
 
 // The numbers of a header; zeros and the refusal where it is refused.
-#[derive(Drop)]
+#[derive(Clone, Copy)]
 pub struct Header {
     pub size: usize,
     pub count: usize,
@@ -28,7 +28,7 @@ pub struct Header {
 
 // The index of a file: the number of its entries, whether its first rows are Int64, and where in the file its first rows, one more
 // than entries, and its bucket numbers start; zeros and the refusal where it is refused.
-#[derive(Drop)]
+#[derive(Clone, Copy)]
 pub struct Index {
     pub count: usize,
     pub wide: bool,
@@ -39,7 +39,7 @@ pub struct Index {
 
 // The columns that a file keeps, in table order: the bytes of a cell of each, 0 for a String, whose offset alone is judged; how
 // many they are; and which of them is asked for, 64 where it is none.
-#[derive(Drop)]
+#[derive(Clone, Copy)]
 pub struct Cells {
     pub bytes: [usize; 64],
     pub count: usize,
@@ -48,7 +48,7 @@ pub struct Cells {
 
 // The beginning of a bucket: whether its starts are Int64, how long its data part is, and the cursor at its index part; zeros where
 // the cursor is refused.
-#[derive(Drop)]
+#[derive(Clone, Copy)]
 pub struct BucketHead {
     pub wide: bool,
     pub len: usize,
@@ -57,7 +57,7 @@ pub struct BucketHead {
 
 // The starts of a column's values: the last one, and which is the last that is not above the row; zeros where the cursor is
 // refused.
-#[derive(Drop)]
+#[derive(Clone, Copy)]
 pub struct Starts {
     pub last: usize,
     pub hit: usize,
@@ -66,7 +66,7 @@ pub struct Starts {
 
 // Where the bucket of the row that is asked for starts, and the offset of the row's value in the column; zeros and the refusal
 // where a bucket is refused.
-#[derive(Drop)]
+#[derive(Clone, Copy)]
 pub struct Found {
     pub start: usize,
     pub offset: usize,
@@ -75,7 +75,7 @@ pub struct Found {
 
 // What the check of a file tells: the bucket size, and the first bit of the cell that is asked for; zeros and the refusal where
 // it is refused.
-#[derive(Drop)]
+#[derive(Clone, Copy)]
 pub struct Checked {
     pub refused: Refusal,
     pub size: usize,

@@ -7,7 +7,7 @@ use aipsio_rules::Cursor;
 use bytes_at::Refusal;
 
 // The first fields of a field's description: its name, a part of table.dat, and its type number, 0 where the cursor is refused.
-#[derive(Drop)]
+#[derive(Clone, Copy)]
 pub struct FieldHead {
     pub number: usize,
     pub start: usize,
@@ -18,7 +18,7 @@ pub struct FieldHead {
 // What a value holds: how many fields, the version of their description, where that and their values stand; no fields, and the cursor
 // past the value, where it is no record. `whole` is a whole TableRecord, which begins at `outer`; `past` is behind what the type asks
 // for in the description.
-#[derive(Drop)]
+#[derive(Clone, Copy)]
 pub struct Held {
     pub count: usize,
     pub version: usize,
@@ -30,14 +30,14 @@ pub struct Held {
 }
 
 // What is asked of a keyword set: the value that the path names, or the field with a number of the record that it names.
-#[derive(Drop)]
+#[derive(Clone, Copy)]
 pub enum Sought {
     Value,
     Field(usize),
 }
 
 // A field that is found: its name, a part of table.dat, its type number and the part that holds its value; zeros while none is.
-#[derive(Drop)]
+#[derive(Clone, Copy)]
 pub struct Found {
     pub known: bool,
     pub name: usize,
@@ -49,7 +49,7 @@ pub struct Found {
 
 // Where a walk through the fields of a record stands: in its description, in its values, and in the path, whose cursor is at the
 // name that is looked for among the fields, and refused where none is.
-#[derive(Drop)]
+#[derive(Clone, Copy)]
 pub struct Standing {
     pub desc: Cursor,
     pub values: Cursor,
@@ -58,28 +58,28 @@ pub struct Standing {
 }
 
 // A value's end, and what was found.
-#[derive(Drop)]
+#[derive(Clone, Copy)]
 pub struct Walked {
     pub values: Cursor,
     pub found: Found,
 }
 
 // Whose keywords: the table's, or those of the column at a position.
-#[derive(Drop)]
+#[derive(Clone, Copy)]
 pub enum Scope {
     Table,
     Column(usize),
 }
 
 // What a keyword set answers: why it is refused, or what was found.
-#[derive(Drop)]
+#[derive(Clone, Copy)]
 pub struct Search {
     pub refused: Refusal,
     pub found: Found,
 }
 
 // A keyword: its type number and the part of table.dat that holds its value; or the refusal.
-#[derive(Drop)]
+#[derive(Clone, Copy)]
 pub enum Keyword {
     At {
         number: usize,
@@ -90,7 +90,7 @@ pub enum Keyword {
 }
 
 // A field of a record: where its name is, and the keyword; or the refusal.
-#[derive(Drop)]
+#[derive(Clone, Copy)]
 pub enum Field {
     At {
         name: usize,

@@ -7,7 +7,7 @@ use standard_rules::Set;
 use table_rules::{Binding, Column};
 
 // A prepared plan: nine numbers in the order of RULES.md 7.4. `datatype` is the data type's number, `per` the rows per bucket.
-#[derive(Drop)]
+#[derive(Clone, Copy)]
 pub struct Plan {
     pub position: usize,
     pub sequence: usize,
@@ -21,7 +21,7 @@ pub struct Plan {
 }
 
 // By what a column is asked for: by its position, or by a prepared plan, which has the position of its column.
-#[derive(Drop)]
+#[derive(Clone, Copy)]
 pub enum Asked {
     Position(usize),
     Planned(Plan),
@@ -29,7 +29,7 @@ pub enum Asked {
 
 // A question: the check of a sequence number's file; the plan of a column's position; the place, or the view, of a row's cell; the
 // place of the cell of a row and a column's position by the row's bucket alone, in IncrementalStMan.
-#[derive(Drop)]
+#[derive(Clone, Copy)]
 pub enum Question {
     Check(usize),
     Prepare(usize),
@@ -40,7 +40,7 @@ pub enum Question {
 
 // A question, read once: whether it asks for a column, for a cell of the column, for the cell's view, whether by a prepared plan, and
 // whether by the row's own bucket, the only one of an IncrementalStMan file that is then checked; the sequence number that a check is for, the row, the column's position, and the plan. What it does not ask for is 0.
-#[derive(Drop)]
+#[derive(Clone, Copy)]
 pub struct Request {
     pub column: bool,
     pub cell: bool,
@@ -55,7 +55,7 @@ pub struct Request {
 
 // The column and the manager that a question is about: what the table says of the column and where it is kept, the manager's sequence
 // number, whether that is an IncrementalStMan, and the refusal so far.
-#[derive(Drop)]
+#[derive(Clone, Copy)]
 pub struct Target {
     pub refused: Refusal,
     pub position: usize,
@@ -67,7 +67,7 @@ pub struct Target {
 
 // What the check of the manager's file tells: the bucket size; of a StandardStMan file where the column's set stands in the index
 // text, of an IncrementalStMan file where the cell that is asked for begins. Zeros and the refusal where it is refused.
-#[derive(Drop)]
+#[derive(Clone, Copy)]
 pub struct FileChecked {
     pub refused: Refusal,
     pub size: usize,
@@ -77,7 +77,7 @@ pub struct FileChecked {
 
 // The refusal after all stages, the fresh plan, the manager's sequence number, the column, whether the manager is an IncrementalStMan
 // and whether the table is big endian; where the column's set stands in the index text, or where the cell of an IncrementalStMan file begins.
-#[derive(Drop)]
+#[derive(Clone, Copy)]
 pub struct Staged {
     pub refused: Refusal,
     pub plan: Plan,
@@ -91,7 +91,7 @@ pub struct Staged {
 
 // The refusal and zeros; or none, the file's bucket size, the plan and the column, and for a place or a view the first bit and the bit
 // count, with the looks of the search for it and the entries of the column's set.
-#[derive(Drop)]
+#[derive(Clone, Copy)]
 pub struct Answer {
     pub refused: Refusal,
     pub size: usize,
@@ -103,19 +103,19 @@ pub struct Answer {
     pub entries: usize,
 }
 
-#[derive(Drop)]
+#[derive(Clone, Copy)]
 pub enum Verdict {
     Accepted,
     Refused(Refusal),
 }
 
-#[derive(Drop)]
+#[derive(Clone, Copy)]
 pub enum Planned {
     Ready(Plan),
     Refused(Refusal),
 }
 
-#[derive(Drop)]
+#[derive(Clone, Copy)]
 pub enum Placed {
     At {
         first: usize,
@@ -127,7 +127,7 @@ pub enum Placed {
 }
 
 // The place by the row's bucket alone, and the file's bucket size. No last rows are looked at.
-#[derive(Drop)]
+#[derive(Clone, Copy)]
 pub enum PlacedInBucket {
     At {
         first: usize,

@@ -21,7 +21,7 @@ use bytes_at::Refusal;
 use standard_rules::{Checked, Header, Set};
 
 // A cell: its first bit, how many last rows were looked at to find it, and how many its set has.
-#[derive(Drop)]
+#[derive(Clone, Copy)]
 pub struct Located {
     pub first: usize,
     pub looks: usize,

@@ -6,7 +6,7 @@ use aipsio_rules::Cursor;
 use bytes_at::Refusal;
 
 // The header's fields on buckets, and the cursor past them.
-#[derive(Drop)]
+#[derive(Clone, Copy)]
 pub struct BucketFields {
     pub size: usize,
     pub count: usize,
@@ -16,7 +16,7 @@ pub struct BucketFields {
 }
 
 // The header's fields on the index, and the cursor past them.
-#[derive(Drop)]
+#[derive(Clone, Copy)]
 pub struct IndexFields {
     pub index_count: usize,
     pub first_index: usize,
@@ -27,7 +27,7 @@ pub struct IndexFields {
 }
 
 // The numbers of a header; zeros and the refusal where it is refused. `sets` is the number of indices.
-#[derive(Drop)]
+#[derive(Clone, Copy)]
 pub struct Header {
     pub size: usize,
     pub count: usize,
@@ -43,7 +43,7 @@ pub struct Header {
 
 // A set of columns: its numbers of entries, of rows in a bucket and of columns; whether its last rows are Int64; and where in the
 // text its last rows and its bucket numbers start.
-#[derive(Drop)]
+#[derive(Clone, Copy)]
 pub struct Set {
     pub entries: usize,
     pub per: usize,
@@ -54,21 +54,21 @@ pub struct Set {
 }
 
 // A set, and the cursor past it.
-#[derive(Drop)]
+#[derive(Clone, Copy)]
 pub struct SetRead {
     pub set: Set,
     pub next: Cursor,
 }
 
 // Sets in stored order, and the cursor past them.
-#[derive(Drop)]
+#[derive(Clone, Copy)]
 pub struct Sets {
     pub sets: [Set; 16],
     pub next: Cursor,
 }
 
 // The sets of an index text; zeros and the refusal where it is refused.
-#[derive(Drop)]
+#[derive(Clone, Copy)]
 pub struct Index {
     pub sets: [Set; 16],
     pub refused: Refusal,
@@ -76,7 +76,7 @@ pub struct Index {
 
 // What the check of a file tells: the bucket size, and where the set that was asked for stands in the index text; zeros and the
 // refusal where it is refused.
-#[derive(Drop)]
+#[derive(Clone, Copy)]
 pub struct Checked {
     pub refused: Refusal,
     pub size: usize,
@@ -84,7 +84,7 @@ pub struct Checked {
 }
 
 // The number of an entry, and how many last rows were looked at to find it.
-#[derive(Drop)]
+#[derive(Clone, Copy)]
 pub struct Entry {
     pub at: usize,
     pub looks: usize,

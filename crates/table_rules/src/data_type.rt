@@ -5,13 +5,13 @@ ghost use Rattle.table_rules.specs.DataType.{nth_row, type_name, element_bits, f
 
 // A data type: its number in Casacore's DataType.h. The bits of an element go by the number alone (`bits_of`). Two bytes, so that a
 // `Column` has no gap, and a list of them is cleared as one block.
-#[derive(Drop)]
+#[derive(Clone, Copy)]
 pub struct DataType {
     pub number: u16,
 }
 
 // The type that a number or a name stands for, or that it stands for none.
-#[derive(Drop)]
+#[derive(Clone, Copy)]
 pub enum Known {
     Of(DataType),
     Nothing,

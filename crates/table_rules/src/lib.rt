@@ -9,7 +9,7 @@ use aipsio_rules::Cursor;
 use bytes_at::Refusal;
 
 // What a column type string says: whether it is one, whether the cells are arrays, and the type of an element.
-#[derive(Drop)]
+#[derive(Clone, Copy)]
 pub struct ColumnType {
     pub known: bool,
     pub array: bool,
@@ -17,7 +17,7 @@ pub struct ColumnType {
 }
 
 // A column's type, and the cursor past the string that says it.
-#[derive(Drop)]
+#[derive(Clone, Copy)]
 pub struct TypeRead {
     pub array: bool,
     pub datatype: DataType,
@@ -25,7 +25,7 @@ pub struct TypeRead {
 }
 
 // The first fields of a ColumnDesc, up to the name. The name's field begins at `from`.
-#[derive(Drop)]
+#[derive(Clone, Copy)]
 pub struct ColumnHead {
     pub array: bool,
     pub datatype: DataType,
@@ -36,7 +36,7 @@ pub struct ColumnHead {
 }
 
 // Options and element count, and the cursor past the shape.
-#[derive(Drop)]
+#[derive(Clone, Copy)]
 pub struct Layout {
     pub options: usize,
     pub elements: usize,
@@ -45,7 +45,7 @@ pub struct Layout {
 
 // A column as its table describes it. Its name is a part of table.dat. Elements: 1 for a scalar, the product of a fixed
 // shape, else 0. Bits: those of a cell, not rounded.
-#[derive(Drop)]
+#[derive(Clone, Copy)]
 pub struct Column {
     pub start: usize,
     pub len: usize,
@@ -58,7 +58,7 @@ pub struct Column {
 }
 
 // A column, and the cursor past its description.
-#[derive(Drop)]
+#[derive(Clone, Copy)]
 pub struct ColumnRead {
     pub column: Column,
     pub next: Cursor,
@@ -66,7 +66,7 @@ pub struct ColumnRead {
 
 // Columns in stored order, which of them hold arrays, and the cursor past them. With the cursor between the two lists each is
 // copied by itself, and a copy of a copy is then left out.
-#[derive(Drop)]
+#[derive(Clone, Copy)]
 pub struct Columns {
     pub columns: [Column; 64],
     pub next: Cursor,
@@ -74,7 +74,7 @@ pub struct Columns {
 }
 
 // The table's row count, the highest sequence number and the number of managers, and the cursor past them.
-#[derive(Drop)]
+#[derive(Clone, Copy)]
 pub struct ColumnSetHead {
     pub rows: usize,
     pub highest: usize,
@@ -83,7 +83,7 @@ pub struct ColumnSetHead {
 }
 
 // A manager's kind is its exact name.
-#[derive(Drop)]
+#[derive(Clone, Copy)]
 pub enum Kind {
     Other,
     Standard,
@@ -91,7 +91,7 @@ pub enum Kind {
 }
 
 // A data manager: its name as a part of table.dat, its sequence number and its kind.
-#[derive(Drop)]
+#[derive(Clone, Copy)]
 pub struct Manager {
     pub start: usize,
     pub number: u32,
@@ -100,7 +100,7 @@ pub struct Manager {
 }
 
 // Managers in stored order, their sequence numbers, and the cursor past them.
-#[derive(Drop)]
+#[derive(Clone, Copy)]
 pub struct Managers {
     pub managers: [Manager; 16],
     pub next: Cursor,
@@ -108,7 +108,7 @@ pub struct Managers {
 }
 
 // A column's sequence number, whose field begins at `from`.
-#[derive(Drop)]
+#[derive(Clone, Copy)]
 pub struct Sequence {
     pub value: usize,
     pub from: usize,
@@ -116,7 +116,7 @@ pub struct Sequence {
 }
 
 // A column's sequence number, the position of the manager that has it, and how many earlier columns that manager has.
-#[derive(Drop)]
+#[derive(Clone, Copy)]
 pub struct Owner {
     pub sequence: u32,
     pub manager: u32,
@@ -124,7 +124,7 @@ pub struct Owner {
 }
 
 // The owners of the columns in stored order, how many columns each manager has, and the cursor past ColumnInfo.
-#[derive(Drop)]
+#[derive(Clone, Copy)]
 pub struct Owners {
     pub owners: [Owner; 64],
     pub next: Cursor,
@@ -132,7 +132,7 @@ pub struct Owners {
 }
 
 // Where a manager's DMInfo has the set numbers and the offsets of its columns, 4 bytes each; whether it tells them at all.
-#[derive(Drop)]
+#[derive(Clone, Copy)]
 pub struct Info {
     pub told: bool,
     pub sets: usize,
@@ -140,14 +140,14 @@ pub struct Info {
 }
 
 // DMInfo of a manager, and the cursor past it.
-#[derive(Drop)]
+#[derive(Clone, Copy)]
 pub struct InfoRead {
     pub info: Info,
     pub next: Cursor,
 }
 
 // The same of the managers in stored order, in lists, which can be lent, and the cursor past all of them.
-#[derive(Drop)]
+#[derive(Clone, Copy)]
 pub struct Infos {
     pub told: [bool; 16],
     pub sets: [usize; 16],
@@ -156,7 +156,7 @@ pub struct Infos {
 }
 
 // Where a column is kept: its manager's sequence number, and the set number and the offset that DMInfo tells.
-#[derive(Drop)]
+#[derive(Clone, Copy)]
 pub struct Binding {
     pub sequence: u32,
     pub set: u32,
@@ -164,7 +164,7 @@ pub struct Binding {
 }
 
 // The count in Table's header and the endianness, and the cursor past the table type.
-#[derive(Drop)]
+#[derive(Clone, Copy)]
 pub struct TableHead {
     pub rows: usize,
     pub big: bool,
@@ -172,14 +172,14 @@ pub struct TableHead {
 }
 
 // The number of columns, and the cursor at the first column description.
-#[derive(Drop)]
+#[derive(Clone, Copy)]
 pub struct TableDescHead {
     pub count: usize,
     pub next: Cursor,
 }
 
 // What table.dat says; zeros where it is refused. The columns stand in stored order, each with its binding.
-#[derive(Drop)]
+#[derive(Clone, Copy)]
 pub struct Description {
     pub refused: Refusal,
     pub rows: usize,
@@ -192,7 +192,7 @@ pub struct Description {
 }
 
 // A column's position, or the refusal.
-#[derive(Drop)]
+#[derive(Clone, Copy)]
 pub enum Position {
     At(usize),
     Refused(Refusal),

@@ -10,7 +10,7 @@ ghost use Rattle.two_places.specs.Demand.{PlacedThere, Demanded};
 
 use lookup_rules::{Asked, Placed};
 
-#[derive(Drop)]
+#[derive(Clone, Copy)]
 pub struct Two {
     pub one: Placed,
     pub other: Placed,

@@ -1,0 +1,12 @@
+-- `keyword_values::is_array_type` meets its contract: its branches are the definition's cases.
+use borrow.Author.Tests.{eq-eqb, ne_eqb}
+use Rattle.keyword_values.proofs.is_array_type.Goals as goal
+
+pub returns-then-number-eq13 : goal.returns-then-number-eq13
+returns-then-number-eq13 c = rw (eq-eqb _ 13 c.if-number-eq13.true)
+
+pub returns-then-number-eq30 : goal.returns-then-number-eq30
+returns-then-number-eq30 c = rw (ne_eqb _ 13 c.if-number-eq13.false, eq-eqb _ 30 c.if-number-eq30.true)
+
+pub returns : goal.returns
+returns c = rw (ne_eqb _ 13 c.if-number-eq13.false, ne_eqb _ 30 c.if-number-eq30.false) c.within.ensures

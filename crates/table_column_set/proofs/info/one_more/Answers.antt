@@ -1,0 +1,11 @@
+-- `table_column_set::info::one_more_lem` meets its contract: a store past the end changes nothing.
+use mathlib.Core.Path.{sym}
+use native.Mathlib.Omega.{arith}
+use lib.Seq.{set_out}
+use Rattle.table_column_set.proofs.info.one_more.Goals as goal
+
+pub overflow_add-counts : goal.overflow_add-counts
+overflow_add-counts c = omega (arith, c.requires.1 c.args.k)
+
+pub returns-else-k-lt16 : goal.returns-else-k-lt16
+returns-else-k-lt16 c = sym (set_out _ _ _ (omega (arith, c.requires.0)))
