@@ -15,7 +15,7 @@ pub returns-then-nb-b : goal.returns-then-nb-b
 returns-then-nb-b c = sym (c.loop-k.invariant ∙ free_range _ _ _ _ _ (omega arith) (omega arith))
 
 pub loop-k-preserved : goal.loop-k-preserved
-loop-k-preserved c = c.loop-k.invariant ∙ free_step _ _ _ _ _ (omega arith) (omega arith) c.before.start_of_lem.ensures.0 c.word-b.ensures.value
+loop-k-preserved c = c.loop-k.invariant ∙ free_step _ _ _ _ _ (omega arith) (omega arith) c.start_of-p.ensures.0 c.word-b.ensures.value
 
 pub returns : goal.returns
 returns c = sym (c.loop-k.invariant ∙ free_end _ _ _ _ _ (omega arith))

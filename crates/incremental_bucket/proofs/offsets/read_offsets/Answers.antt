@@ -2,7 +2,6 @@
 use Prim.Native.Nat.{◌-◌}
 use mathlib.Core.Path.{refl}
 use native.Mathlib.Omega.{arith}
-use borrow.Author.Tests.{not-true, not-false}
 use Rattle.bytes_at.proofs.Loops.{after_none, after_more}
 use Rattle.bytes_at.proofs.Room.{room_at, no_room_at}
 use Rattle.incremental_rules.proofs.Turns.{offset_short, offset_wrong, offset_on, offsets_none, offsets_stop, offsets_all}
@@ -21,7 +20,7 @@ pub returns-then-not-lies_within : goal.returns-then-not-lies_within
 returns-then-not-lies_within c = record {
   value = offsets_stop _ _ _ _ _ _ c.if-refused-ne0.false _ c.loop-i.invariant.2 (omega arith) (λ z. omega arith)
       (offset_wrong _ _ _ _ _ _ refl refl (omega (arith, room_at 4 (omega arith) refl _ _ _ c.left-room.ensures c.loop-i.invariant.1 c.least-m.ensures.bounds.1 (omega arith)))
-      c.word_there-v.ensures.value c.lies_within.ensures (not-true _ c.if-not-lies_within.true));
+      c.word_there-v.ensures.value c.lies_within.ensures c.if-not-lies_within.true);
   inside = refl;
 }
 
@@ -34,7 +33,7 @@ loop-i-preserved c = (
   omega (arith, c.loop-i.invariant.1),
   after_more _ _ _ c.loop-i.invariant.2
       (offset_on _ _ _ _ _ _ refl refl (omega (arith, room_at 4 (omega arith) refl _ _ _ c.left-room.ensures c.loop-i.invariant.1 c.least-m.ensures.bounds.1 (omega arith)))
-      c.word_there-v.ensures.value c.lies_within.ensures (not-false _ c.if-not-lies_within.false) c.choose-offset.ensures),
+      c.word_there-v.ensures.value c.lies_within.ensures c.if-not-lies_within.false c.choose-offset.ensures),
 )
 
 pub returns-then-m-n : goal.returns-then-m-n

@@ -2,7 +2,6 @@
 use Prim.Native.Nat.{◌-◌}
 use mathlib.Core.Path.{refl}
 use native.Mathlib.Omega.{arith}
-use borrow.Author.Tests.{not-true, not-false}
 use Rattle.bytes_at.proofs.Loops.{after_none, after_more}
 use Rattle.bytes_at.proofs.Room.{room_at, no_room_at}
 use Rattle.aipsio_rules.proofs.Bounds.{bytes_some}
@@ -25,7 +24,7 @@ pub returns-then-not-start_fits : goal.returns-then-not-start_fits
 returns-then-not-start_fits c = record {
   value = starts_stop _ _ _ _ _ _ c.if-refused-ne0.false _ c.loop-i.invariant.2 (omega arith) (λ z. omega arith)
       (start_wrong _ _ _ _ _ _ refl refl c.bytes-size.ensures.0 (omega (arith, room_at _ (bytes_some c.args.width refl) c.bytes-size.ensures.0 _ _ _ c.left.ensures c.loop-i.invariant.1 c.least-m.ensures.bounds.1 (omega arith)))
-      c.number_there-v.ensures c.start_fits.ensures (not-true _ c.if-not-start_fits.true));
+      c.number_there-v.ensures c.start_fits.ensures c.if-not-start_fits.true);
   inside = refl;
 }
 
@@ -38,7 +37,7 @@ loop-i-preserved c = (
   omega (arith, c.loop-i.invariant.1),
   after_more _ _ _ c.loop-i.invariant.2
       (start_on _ _ _ _ _ _ refl refl c.bytes-size.ensures.0 (omega (arith, room_at _ (bytes_some c.args.width refl) c.bytes-size.ensures.0 _ _ _ c.left.ensures c.loop-i.invariant.1 c.least-m.ensures.bounds.1 (omega arith)))
-      c.number_there-v.ensures c.start_fits.ensures (not-false _ c.if-not-start_fits.false) c.choose-hit.ensures),
+      c.number_there-v.ensures c.start_fits.ensures c.if-not-start_fits.false c.choose-hit.ensures),
 )
 
 pub returns-then-m-n : goal.returns-then-m-n

@@ -2,7 +2,7 @@
 use Rattle.lookup_question.proofs.reading.read.Goals as goal
 
 pub returns-in-Check : goal.returns-in-Check
-returns-in-Check c = rw (c.in-Check.is, c.no_plan_lem.ensures)
+returns-in-Check c = rw (c.in-Check.is, c.no_plan.ensures)
 
 pub returns-in-Prepare : goal.returns-in-Prepare
 returns-in-Prepare c = rw (c.in-Prepare.is, c.no_plan-in-Prepare.ensures)

@@ -2,7 +2,7 @@
 use Rattle.lookup_question.proofs.tests.fresh.Goals as goal
 
 pub returns-then-r : goal.returns-then-r
-returns-then-r c = rw c.if-r.true c.same_plan_lem.ensures
+returns-then-r c = rw c.if-r.true c.same_plan.ensures
 
 pub returns : goal.returns
 returns c = rw c.if-r.false

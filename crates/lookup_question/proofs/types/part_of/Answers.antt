@@ -13,8 +13,8 @@ unfolding view_by view_of padded_of
 returns-then-is_padded c =
     let part = c.part_from-whole.ensures in (
       rw (c.if-padded.false, ← c.is_padded.ensures, c.if-is_padded.true)
-          (c.before-zero.ensures.0 ∙ ap before_zero part.0),
-      c.before-zero.ensures.1 ∙ part.1,
+          (c.before_zero.ensures.0 ∙ ap before_zero part.0),
+      c.before_zero.ensures.1 ∙ part.1,
     )
 
 pub returns : goal.returns

@@ -10,5 +10,5 @@ returns c =
     via _ c.skip_notes-notes.ensures (
     via _ c.read_layout-layout.ensures.value (
     via _ (rw c.element_bits-size.ensures.value at c.read_tail-maximum.ensures.value) (
-    via _ c.before.before.before.before.cell_bits_lem.ensures.0 (
+    via _ c.cell_bits-bits.ensures.value (
     refl))))

@@ -8,7 +8,7 @@ pub returns : goal.returns
 unfolding options_at
 returns c = record {
   value = via _ c.code-o.ensures.value (
-      via _ c.before.before.options_fit_lem.ensures (
+      via _ c.options_fit-ok.ensures (
       via _ c.judge-d.ensures c.settle.ensures.value));
   bounded = omega (arith, c.settle.ensures.bounded, c.code-o.ensures.bounded);
 }

@@ -1,0 +1,20 @@
+-- `incremental::cells::find_in_own` meets its contract.
+use mathlib.Core.Path.{refl}
+use native.Mathlib.Omega.{arith}
+use Rattle.incremental.proofs.cells.Turns.{bounds-none, own_on, own_off}
+use Rattle.incremental.proofs.cells.find_in_own.Goals as goal
+
+pub returns-then-rows-row : goal.returns-then-rows-row
+returns-then-rows-row c = record { value = own_off _ _ _ _ _ _ _ c.if-rows-row.true; bounded = bounds-none }
+
+pub find_entry-i-requires : goal.find_entry-i-requires
+find_entry-i-requires c = let p = c.requires in (p.1.0, p.1.1.1, omega arith)
+
+pub read_entry-requires : goal.read_entry-requires
+read_entry-requires c =
+    let p = c.requires in
+    let k = c.find_entry-i.ensures.known in
+    ((p.0.0, p.0.1, k), (p.1.0, (p.1.1.0 _ k, (refl, bounds-none))))
+
+pub returns : goal.returns
+returns c = record { value = own_on _ _ _ _ _ _ _ (omega arith) c.find_entry-i.ensures.value c.read_entry.ensures.value; bounded = c.read_entry.ensures.bounded }

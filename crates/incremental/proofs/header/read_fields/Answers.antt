@@ -1,0 +1,22 @@
+-- `incremental::header::read_fields` meets its contract: its calls compose as the definition says, and a u_int is below 2^32.
+use mathlib.Core.Path.{refl}
+use Rattle.bytes_at.proofs.Stepped.{via}
+use Rattle.incremental_rules.specs.Header.{fields_at}
+use Rattle.incremental.proofs.header.read_fields.Goals as goal
+
+pub returns : goal.returns
+unfolding fields_at
+returns c = record {
+  value = via _ c.open-o.ensures (
+      via _ c.flag-flag.ensures.value (
+      via _ c.same_endian-same.ensures (
+      via _ c.judge-d.ensures (
+      via _ c.number-size.ensures.value (
+      via _ c.number-count.ensures.value (
+      via _ c.uint-cache.ensures.value (
+      via _ c.uint-unique.ensures.value (
+      via _ c.uint-free.ensures.value (
+      via _ c.uint-first.ensures.value (
+      refl))))))))));
+  words = (c.uint-free.ensures.bounded, c.uint-first.ensures.bounded);
+}

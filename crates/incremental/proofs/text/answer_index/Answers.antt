@@ -1,0 +1,9 @@
+-- `incremental::text::answer_index` meets its contract, on either side of its test.
+use Rattle.incremental.proofs.text.IndexLaws.{indexed_on, indexed_off}
+use Rattle.incremental.proofs.text.answer_index.Goals as goal
+
+pub returns-then-refused-ne0 : goal.returns-then-refused-ne0
+returns-then-refused-ne0 c = indexed_off _ _ _ _ _ c.if-refused-ne0.true c.refusal.ensures
+
+pub returns : goal.returns
+returns c = indexed_on _ _ _ _ _ c.if-refused-ne0.false

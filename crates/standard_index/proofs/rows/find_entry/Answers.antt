@@ -1,0 +1,25 @@
+-- `standard_index::rows::find_entry` meets its contract. The loop's invariant: the rule, over the entries that are still possible, gives what it
+-- gives over all, and the looks that are left are enough to leave one entry.
+use Prim.Native.Nat.{◌-◌}
+use native.Mathlib.Omega.{arith}
+use Rattle.bytes_at.proofs.Listed.{room_for}
+use Rattle.standard_index.proofs.rows.Halving.{bounded_start, bounded_down, bounded_up, bounded_one, bounded_end}
+use Rattle.standard_index.proofs.rows.find_entry.Goals as goal
+
+pub loop-looks-init : goal.loop-looks-init
+loop-looks-init c = bounded_start _ _ _ _ _ _ _ (omega arith) c.bit_length-most.ensures
+
+pub returns-then-last-first : goal.returns-then-last-first
+returns-then-last-first c = bounded_one c.loop-looks.invariant c.bit_length-most.ensures (omega (arith, c.if-last-first.true))
+
+pub last_row-found-requires : goal.last_row-found-requires
+last_row-found-requires c = room_for _ _ _ _ (omega arith) c.requires.1
+
+pub loop-looks-preserved-then-row-found : goal.loop-looks-preserved-then-row-found
+loop-looks-preserved-then-row-found c = bounded_down c.loop-looks.invariant c.loop-looks-test.true c.if-last-first.false c.last_row-found.ensures c.if-row-found.true
+
+pub loop-looks-preserved : goal.loop-looks-preserved
+loop-looks-preserved c = bounded_up c.loop-looks.invariant c.loop-looks-test.true c.if-last-first.false c.last_row-found.ensures c.if-row-found.false
+
+pub returns : goal.returns
+returns c = bounded_end c.loop-looks.invariant c.bit_length-most.ensures c.loop-looks-test.false
