@@ -53,7 +53,7 @@ buckets_inside rows big f h x a e z i l =
 -- ---- the parts before the buckets. h is the header that was read, and n, x, g and m what was found on the way.
 module _ (rows : ℕ) (big : Bool) (f : List ℕ) (refused : Refusal) (h : Header) (e : h ≡ header_at f big) where
   abbrev Says : Parts → Type 0
-  Says p = (p ≡ parts_of rows big f refused) × (p.refused.number ≡ 0 → PartsBounds rows big f p)
+  Says p = record { value : p ≡ parts_of rows big f refused; shown : p.refused.number ≡ 0 → PartsBounds rows big f p }
 
   abbrev freed : Bool
   freed = free_ok f h.size h.count h.free_count h.first_free
@@ -68,7 +68,7 @@ module _ (rows : ℕ) (big : Bool) (f : List ℕ) (refused : Refusal) (h : Heade
 
   out : (n : Refusal) {p : Parts} → before_buckets rows big f refused ≡ n → (n.number ≡ 0 → ⊥) → p ≡ no_parts n → Says p
   unfolding parts_of
-  out n q z w = (w ∙ sym (rw (q, ne_eqb n.number 0 z)), λ y. absurd (z (sym (ap (λ (x : Parts). x.refused.number) w) ∙ y)))
+  out n q z w = record { value = w ∙ sym (rw (q, ne_eqb n.number 0 z)); shown = λ y. absurd (z (sym (ap (λ (x : Parts). x.refused.number) w) ∙ y)) }
 
   pub out_first : (n : Refusal) {p : Parts} → n ≡ before_index refused h (length f) → (n.number ≡ 0 → ⊥) → p ≡ no_parts n → Says p
   out_first n q z w = out n (staged ∙ rw (← q) (stops n _ z)) z w
@@ -94,15 +94,15 @@ module _ (rows : ℕ) (big : Bool) (f : List ℕ) (refused : Refusal) (h : Heade
         pub parts_right : {m : Bool} → m ≡ right x → m ≡ true → HeaderBounds h → IndexInside (length f) x → Area f h.size h.count
             → Says (record { refused = no_refusal; size = h.size; index = x })
         unfolding parts_of
-        parts_right v j b i r = (
-          sym (rw (after_free ∙ yes_is (right x) 11 0 (sym v ∙ j), ← e, ← y)),
-          λ o. record {
+        parts_right v j b i r = record {
+          value = sym (rw (after_free ∙ yes_is (right x) 11 0 (sym v ∙ j), ← e, ← y));
+          shown = λ o. record {
             size_most = b.size_most;
             inside = i;
             buckets = buckets_inside rows big f h x r v j;
             numbers = rw (← e) (index_read rows big f h x (passed (sym v ∙ j)));
-          },
-        )
+          };
+        }
 
 -- ---- what is answered, by the parts and what the buckets' stage found
 told_off : (why : Refusal) (size : ℕ) (found : Found) → (why.number ≡ 0 → ⊥) → told why size found ≡ refused_file why

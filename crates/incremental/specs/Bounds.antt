@@ -17,8 +17,8 @@ pub record HeaderBounds (h : Header) : Type 0 where
 
 -- the numbers without a range are u_ints
 pub record HeaderWords (h : Header) : Type 0 where
-  pub free_count_lem : h.free_count < 4294967296
-  pub first_free_lem : h.first_free < 4294967296
+  pub free_count : h.free_count < 4294967296
+  pub first_free : h.first_free < 4294967296
 
 -- both lists lie in a file of len bytes
 pub record IndexInside (len : ℕ) (x : Index) : Type 0 where

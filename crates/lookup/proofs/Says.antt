@@ -31,4 +31,4 @@ module _ (t f : List ℕ) (q : Question) (l : ℕ) {room : List ℕ} (left : roo
       → ((r ≡ placed_in_bucket_of (answer_of t f q l)) × (room ≡ room_after t f q l))
       × ((in_bucket_refusal r ≡ (answer_of t f q l).refused) × (in_bucket_bits r ≡ answer_bits (answer_of t f q l)) × (in_bucket_size r ≡ (answer_of t f q l).size))
   in_bucket_says e =
-      ((e, left), (ap in_bucket_refusal e ∙ (every_answer t f q l).in_bucket_lem, ap in_bucket_bits e ∙ (every_answer t f q l).in_bucket_bits_lem, ap in_bucket_size e ∙ (every_answer t f q l).in_bucket_size_lem))
+      ((e, left), (ap in_bucket_refusal e ∙ (every_answer t f q l).in_bucket, ap in_bucket_bits e ∙ (every_answer t f q l).in_bucket_bits, ap in_bucket_size e ∙ (every_answer t f q l).in_bucket_size))

@@ -84,9 +84,9 @@ said a z = record {
   placed = by_placed a z;
   bits = by_bits a z;
   looks = by_looks a z;
-  in_bucket_lem = by_in_bucket a z;
-  in_bucket_bits_lem = by_in_bucket_bits a z;
-  in_bucket_size_lem = by_in_bucket_size a z;
+  in_bucket = by_in_bucket a z;
+  in_bucket_bits = by_in_bucket_bits a z;
+  in_bucket_size = by_in_bucket_size a z;
 }
 
 pub refused_looks : (t f : List ℕ) (q : Question) (l : ℕ) → ((answer_of t f q l).refused.number ≡ 0 → ⊥) → answer_looks (answer_of t f q l) ≡ no_looks

@@ -86,9 +86,9 @@ pub record Says (a : Answer) : Type 0 where
   pub placed : placed_refusal (placed_of a) ≡ a.refused
   pub bits : placed_bits (placed_of a) ≡ answer_bits a
   pub looks : placed_looks (placed_of a) ≡ answer_looks a
-  pub in_bucket_lem : in_bucket_refusal (placed_in_bucket_of a) ≡ a.refused
-  pub in_bucket_bits_lem : in_bucket_bits (placed_in_bucket_of a) ≡ answer_bits a
-  pub in_bucket_size_lem : in_bucket_size (placed_in_bucket_of a) ≡ a.size
+  pub in_bucket : in_bucket_refusal (placed_in_bucket_of a) ≡ a.refused
+  pub in_bucket_bits : in_bucket_bits (placed_in_bucket_of a) ≡ answer_bits a
+  pub in_bucket_size : in_bucket_size (placed_in_bucket_of a) ≡ a.size
 
 abbrev pub EveryAnswer : Type 0
 EveryAnswer = (t f : List ℕ) (q : Question) (l : ℕ) → Says (answer_of t f q l)

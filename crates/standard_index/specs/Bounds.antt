@@ -6,10 +6,10 @@ use Rattle.standard_rules.specs.declared.Set.{Set}
 
 -- the numbers without a range are u_ints
 pub record HeaderWords (h : Header) : Type 0 where
-  pub free_count_lem : h.free_count < 4294967296
-  pub first_free_lem : h.first_free < 4294967296
-  pub index_count_lem : h.index_count < 4294967296
-  pub first_index_lem : h.first_index < 4294967296
+  pub free_count : h.free_count < 4294967296
+  pub first_free : h.first_free < 4294967296
+  pub index_count : h.index_count < 4294967296
+  pub first_index : h.first_index < 4294967296
   pub offset : h.offset < 4294967296
 
 -- both lists of a set lie in a text of len bytes, and its rows per bucket are in range

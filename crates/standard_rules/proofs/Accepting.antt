@@ -130,8 +130,8 @@ module _ (m : Map) (t : T (fits m)) where
         span = λ k e h l. omega (arith, set_spans k e h (omega arith));
         reach = λ k h. covers_end m.rows (set_at m k).rows_per 0 (set_at m k).lasts (set_covers k h);
         counted = λ k h. eqb→eq _ _ (set_counts k h);
-        set_known_lem = λ c k. ltb→lt _ _ (then (column_at m c).kept _ (all_at (set_known (length m.sets)) m.columns no_map_column sets_known c k.known) k.here);
-        in_bucket_lem = λ c k. leb→le _ _ (inside c k);
+        set_known = λ c k. ltb→lt _ _ (then (column_at m c).kept _ (all_at (set_known (length m.sets)) m.columns no_map_column sets_known c k.known) k.here);
+        in_bucket = λ c k. leb→le _ _ (inside c k);
         extents_apart = columns_apart;
         data_below = λ k e h l. ltb→lt _ _ (data_at (below m.count) m.sets (all_below m.count (data_of m.sets) data_rule) k e (h, l));
         index_below = apart_below m.count m.index index_rule;

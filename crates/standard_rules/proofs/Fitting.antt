@@ -51,14 +51,14 @@ module _ (m : Map) (a : MapAccepted m) where
   sets_known : T (all (set_known (length m.sets)) m.columns)
   sets_known =
       all_yes (set_known (length m.sets)) m.columns no_map_column (λ c h.
-      then_yes (column_at m c).kept _ (λ k. lt→ltb _ _ (a.set_known_lem c (record { known = h; here = k }))))
+      then_yes (column_at m c).kept _ (λ k. lt→ltb _ _ (a.set_known c (record { known = h; here = k }))))
 
   extents_inside : T (all (in_bucket m.size) (extents m))
   unfolding in_bucket
   extents_inside =
       all_yes (in_bucket m.size) (extents m) (extent_of m no_map_column) (λ c h.
       rw (extent_at_lem m c)
-      (then_yes (column_at m c).kept _ (λ k. le→leb _ _ (a.in_bucket_lem c (record { known = omega (arith, extents_length m); here = k })))))
+      (then_yes (column_at m c).kept _ (λ k. le→leb _ _ (a.in_bucket c (record { known = omega (arith, extents_length m); here = k })))))
 
   extents_clear : T (pairs clear (extents m))
   extents_clear =

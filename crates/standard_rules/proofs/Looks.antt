@@ -69,7 +69,7 @@ module _ (d : Description) (sequence : ℕ) (f : List ℕ) (l row c : ℕ) (a : 
   s = (column_at m c).set
 
   known : s < length m.sets
-  known = a.map.set_known_lem c k
+  known = a.map.set_known c k
 
   covered : T (covers m.rows (set_at m s).rows_per 0 (set_at m s).lasts)
   covered = set_covers m ((map_exactly m).1 a.map) s known

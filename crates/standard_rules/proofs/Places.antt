@@ -27,7 +27,7 @@ buckets_apart m b d p q i j n x =
 module _ (m : Map) (a : MapAccepted m) where
   -- what holds of one cell
   record Cell (row c : ℕ) : Type 0 where
-    set_known_lem : (column_at m c).set < length m.sets
+    set_known : (column_at m c).set < length m.sets
     entry_known : entry_in m row c < length (set_of m c).buckets
     starts : first_row_of (set_of m c).lasts (entry_in m row c) ≤ row
     ends : local_row m row c * (column_at m c).bits + (column_at m c).bits ≤ 8 * ceil8 ((set_of m c).rows_per * (column_at m c).bits)
@@ -36,17 +36,17 @@ module _ (m : Map) (a : MapAccepted m) where
   cell : (row c : ℕ) → row < m.rows → Kept m c → Cell row c
   cell row c h k =
       let s = (column_at m c).set in
-      let known : s < length m.sets = a.set_known_lem c k in
+      let known : s < length m.sets = a.set_known c k in
       let f : Found (set_at m s).lasts row = found (set_at m s).lasts row (omega (arith, a.reach s known)) in
       let span = a.span s (entry_in m row c) known f.known in
       let l : local_row m row c < (set_at m s).rows_per = omega arith in
       let ends : local_row m row c * (column_at m c).bits + (column_at m c).bits ≤ 8 * ceil8 ((set_at m s).rows_per * (column_at m c).bits) = omega (arith, step (column_at m c).bits l) in
       record {
-        set_known_lem = known;
+        set_known = known;
         entry_known = omega (arith, a.paired s known);
         starts = f.starts;
         ends = ends;
-        inside = omega (arith, a.in_bucket_lem c k);
+        inside = omega (arith, a.in_bucket c k);
       }
 
   safe : (row c : ℕ) → row < m.rows → Kept m c → Safe m (place_of m row c) row c
@@ -54,11 +54,11 @@ module _ (m : Map) (a : MapAccepted m) where
       let x = cell row c h k in
       record {
         given = x.entry_known;
-        in_range = a.data_below _ _ x.set_known_lem x.entry_known;
+        in_range = a.data_below _ _ x.set_known x.entry_known;
         inside = x.inside;
         off_header = omega (arith, x.inside);
-        off_index = λ i l. buckets_apart m _ _ _ _ x.inside (omega arith) (a.data_index _ _ i x.set_known_lem x.entry_known l);
-        off_free = λ i l. buckets_apart m _ _ _ _ x.inside (omega arith) (a.data_free _ _ i x.set_known_lem x.entry_known l);
+        off_index = λ i l. buckets_apart m _ _ _ _ x.inside (omega arith) (a.data_index _ _ i x.set_known x.entry_known l);
+        off_free = λ i l. buckets_apart m _ _ _ _ x.inside (omega arith) (a.data_free _ _ i x.set_known x.entry_known l);
       }
 
   -- two rows of one column in one entry
@@ -88,7 +88,7 @@ module _ (m : Map) (a : MapAccepted m) where
       → Apart (place_of m row c) (place_of m row' c')
   apart row c row' c' x y k k' n = elim (ℕ_discrete (bucket_in m row c) (bucket_in m row' c')) [
     | no d ↦ buckets_apart m _ _ _ _ x.inside y.inside d
-    | yes e ↦ shared e (a.data_apart _ _ _ _ x.set_known_lem y.set_known_lem x.entry_known y.entry_known e)
+    | yes e ↦ shared e (a.data_apart _ _ _ _ x.set_known y.set_known x.entry_known y.entry_known e)
   ]
     where
       shared : bucket_in m row c ≡ bucket_in m row' c' → ((column_at m c).set ≡ (column_at m c').set) × (entry_in m row c ≡ entry_in m row' c')

@@ -219,9 +219,9 @@ pub record MapAccepted (m : Map) : Type 0 where
   -- "the column count agrees with DMInfo"
   pub counted : (k : ℕ) → k < length m.sets → bound_to k m.columns ≡ (set_at m k).columns
   -- "whose set numbers are below the indices' count"
-  pub set_known_lem : (c : ℕ) → Kept m c → (column_at m c).set < length m.sets
+  pub set_known : (c : ℕ) → Kept m c → (column_at m c).set < length m.sets
   -- "each column's extent, offset to offset + ceiling(rows per bucket x cell bits / 8), lies in the bucket"
-  pub in_bucket_lem : (c : ℕ) → Kept m c → (extent_of m (column_at m c)).end ≤ m.size
+  pub in_bucket : (c : ℕ) → Kept m c → (extent_of m (column_at m c)).end ≤ m.size
   -- "and meets no other of its set"
   pub extents_apart : (c d : ℕ) → (c ≡ d → ⊥) → Kept m c → Kept m d → (column_at m c).set ≡ (column_at m d).set
       → Meet (extent_of m (column_at m c)) (extent_of m (column_at m d)) → ⊥

@@ -59,8 +59,8 @@ module _ (c : Cursor) (h : HeaderFields) where
   pub headed_words : (h.free_count < 4294967296) × (h.first_free < 4294967296) → HeaderWords (headed c h)
   headed_words x =
       elim (ℕ_discrete c.refused 0) [
-        | yes e ↦ rw (← (headed_on e)) (record { free_count_lem = x.0; first_free_lem = x.1 })
-        | no e ↦ rw (← (headed_off e refl)) (record { free_count_lem = omega arith; first_free_lem = omega arith })
+        | yes e ↦ rw (← (headed_on e)) (record { free_count = x.0; first_free = x.1 })
+        | no e ↦ rw (← (headed_off e refl)) (record { free_count = omega arith; first_free = omega arith })
       ]
 
 -- Every header's numbers are in range.
@@ -69,5 +69,5 @@ unfolding header_at ◌>>=◌
 header_bounds s big = headed_bounds _ _ (λ e. clean_before (closed_keeps _ _) e) (field_bounds s _)
 
 pub header_answered : (s : List ℕ) (big : Bool) {h : Header} → h ≡ header_at s big → HeaderWords h
-    → (h ≡ header_at s big) × (HeaderBounds h × HeaderWords h)
-header_answered s big e w = (e, (rw e (header_bounds s big), w))
+    → record { value : h ≡ header_at s big; bounded : HeaderBounds h; words : HeaderWords h }
+header_answered s big e w = record { value = e; bounded = rw e (header_bounds s big); words = w }

@@ -27,12 +27,12 @@ module _ (rows : ℕ) (big : Bool) (f : List ℕ) (h : Header) (x : Index) (a : 
     high = λ l. absurd (omega arith);
   }
 
-  pub halving_end : {first past : ℕ} → Halving big f x row first past → past ≤ first + 1 → (first ≡ entry_of big f x row) × (first < x.count)
-  halving_end {first} {past} v l = (
-    sym (entry_is rows big f h x a row k first (omega (arith, v.within, v.most)) v.low
-        (λ n. let q : past ≡ first + 1 = omega (arith, v.within) in rw (← q) (v.high (omega (arith, q))))),
-    omega (arith, v.within, v.most),
-  )
+  pub halving_end : {first past : ℕ} → Halving big f x row first past → past ≤ first + 1 → record { value : first ≡ entry_of big f x row; known : first < x.count }
+  halving_end {first} {past} v l = record {
+    value = sym (entry_is rows big f h x a row k first (omega (arith, v.within, v.most)) v.low
+        (λ n. let q : past ≡ first + 1 = omega (arith, v.within) in rw (← q) (v.high (omega (arith, q)))));
+    known = omega (arith, v.within, v.most);
+  }
 
 module _ {big : Bool} {f : List ℕ} {x : Index} {row first past : ℕ} (v : Halving big f x row first past) {middle from : ℕ} (e : from ≡ first_row big f x middle) where
   pub halving_down : first < middle → middle < past → row < from → Halving big f x row first middle

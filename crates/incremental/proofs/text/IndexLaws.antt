@@ -67,5 +67,5 @@ module _ (s : List ℕ) (big : Bool) (at : ℕ) where
         buckets_inside = omega (arith, block_inside s a.next n.value hb, start-to-a.ends ha);
       })
 
-  pub index_answered : {x : Index} → x ≡ index_at s big at → (x ≡ index_at s big at) × (x.refused.number ≡ 0 → IndexInside (length s) x)
-  index_answered {x} q = (q, λ z. rw q (index_inside (rw q at z)))
+  pub index_answered : {x : Index} → x ≡ index_at s big at → record { value : x ≡ index_at s big at; inside : x.refused.number ≡ 0 → IndexInside (length s) x }
+  index_answered {x} q = record { value = q; inside = λ z. rw q (index_inside (rw q at z)) }

@@ -16,10 +16,10 @@ returns-then-t-lt7 c = rw (← c.is_text.ensures, c.if-is_text.false, lt-ltb _ 7
 
 pub returns-then-not-is_text : goal.returns-then-not-is_text
 unfolding is_array_name
-returns-then-not-is_text c = rw (← c.is_text.ensures, c.if-is_text.false, le-ltb _ 7 c.if-t-lt7.false, ← c.is_text-2.ensures, not-true c.is_text-2.result c.if-not-is_text.true)
+returns-then-not-is_text c = rw (← c.is_text.ensures, c.if-is_text.false, le-ltb _ 7 c.if-t-lt7.false, ← c.is_text-2.ensures, c.if-not-is_text.true)
 
 pub returns : goal.returns
 unfolding is_array_name
 returns c =
-    rw (← c.is_text.ensures, c.if-is_text.false, le-ltb _ 7 c.if-t-lt7.false, ← c.is_text-2.ensures, not-false c.is_text-2.result c.if-not-is_text.false, ← c.minus.ensures)
+    rw (← c.is_text.ensures, c.if-is_text.false, le-ltb _ 7 c.if-t-lt7.false, ← c.is_text-2.ensures, c.if-not-is_text.false, ← c.minus.ensures)
     (ap (λ (b : ℕ). eqb b 62) c.byte.ensures.value)

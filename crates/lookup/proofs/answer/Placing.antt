@@ -41,7 +41,7 @@ module _ (d : Description) (sequence : ℕ) (f : List ℕ) (refused : Refusal) (
 
   -- the set of a column that is kept is one of them
   pub set_known_lem : (refusal_of d sequence f refused l).number ≡ 0 → (c : ℕ) → Kept (map_of d sequence f) c → (column_at (map_of d sequence f) c).set < (header_at f d.big).sets
-  set_known_lem z c k = rw (← map_sets) ((accepted (map_of d sequence f) (map_fits d sequence f refused l z)).set_known_lem c k)
+  set_known_lem z c k = rw (← map_sets) ((accepted (map_of d sequence f) (map_fits d sequence f refused l z)).set_known c k)
 
   -- the map's set is the text's
   pub set_same : (k : ℕ) → k < (header_at f d.big).sets

@@ -20,10 +20,10 @@ module _ (c : Cursor) (b : BucketFields) (i : IndexFields) where
       → HeaderWords (headed c b i)
   headed_words x y =
       elim (ℕ_discrete c.refused 0) [
-        | yes h ↦ rw (← (headed_on c b i h)) (record { free_count_lem = x.0; first_free_lem = x.1; index_count_lem = y.0; first_index_lem = y.1; offset = y.2 })
-        | no h ↦ rw (← (headed_off c b i h refl)) (record { free_count_lem = omega arith; first_free_lem = omega arith; index_count_lem = omega arith; first_index_lem = omega arith; offset = omega arith })
+        | yes h ↦ rw (← (headed_on c b i h)) (record { free_count = x.0; first_free = x.1; index_count = y.0; first_index = y.1; offset = y.2 })
+        | no h ↦ rw (← (headed_off c b i h refl)) (record { free_count = omega arith; first_free = omega arith; index_count = omega arith; first_index = omega arith; offset = omega arith })
       ]
 
 pub header_answered : (s : List ℕ) (big : Bool) {h : Header} → h ≡ header_at s big → HeaderWords h
-    → (h ≡ header_at s big) × (HeaderBounds h × HeaderWords h)
-header_answered s big e w = (e, (rw e (header_bounds s big), w))
+    → record { value : h ≡ header_at s big; bounded : HeaderBounds h; words : HeaderWords h }
+header_answered s big e w = record { value = e; bounded = rw e (header_bounds s big); words = w }

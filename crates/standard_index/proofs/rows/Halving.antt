@@ -92,9 +92,9 @@ module _ {big : Bool} {w : ℕ} {s : List ℕ} {at n row most first last looks :
   spent h = let e : most - looks ≡ 0 = omega arith in let c : last - first < 2 ^ 0 = rw e at v.close in omega arith
 
   pub bounded_one : most ≡ bit_length (n - 1) → last ≤ first
-      → (record { at = first; looks = looks } ≡ halving_of (numbers_at big w s at n) row) × ((first < n) × (looks ≤ bit_length (n - 1)))
-  bounded_one e h = let r = halving_end v.halving h in (r.0, (r.1, omega (arith, v.left)))
+      → record { value : record { at = first; looks = looks } ≡ halving_of (numbers_at big w s at n) row; known : (first < n) × (looks ≤ bit_length (n - 1)) }
+  bounded_one e h = let r = halving_end v.halving h in record { value = r.0; known = (r.1, omega (arith, v.left)) }
 
   pub bounded_end : most ≡ bit_length (n - 1) → most ≤ looks
-      → (record { at = first; looks = looks } ≡ halving_of (numbers_at big w s at n) row) × ((first < n) × (looks ≤ bit_length (n - 1)))
+      → record { value : record { at = first; looks = looks } ≡ halving_of (numbers_at big w s at n) row; known : (first < n) × (looks ≤ bit_length (n - 1)) }
   bounded_end e h = bounded_one e (spent h)

@@ -122,5 +122,5 @@ module _ (s : List ℕ) (big : Bool) (n : ℕ) (h : n ≤ 16) where
       rw w.1 ((turns_inside s start n h (clean_before (judged_keeps all.next _ _ 7) w.0)).each_inside k l)
 
   pub index_answered : {ix : Index} → ix ≡ index_at s big n
-      → (ix ≡ index_at s big n) × (ix.refused.number ≡ 0 → (k : ℕ) → k < n → SetInside (length s) (get_or ix.sets k no_set))
-  index_answered {ix} q = (q, λ e k l. rw q (index_inside (rw q at e) k l))
+      → record { value : ix ≡ index_at s big n; inside : ix.refused.number ≡ 0 → (k : ℕ) → k < n → SetInside (length s) (get_or ix.sets k no_set) }
+  index_answered {ix} q = record { value = q; inside = λ e k l. rw q (index_inside (rw q at e) k l) }

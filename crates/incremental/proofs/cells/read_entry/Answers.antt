@@ -13,16 +13,16 @@ pub overflow_add-at : goal.overflow_add-at
 overflow_add-at c = omega (arith, start_most c.requires.size_bound.0 c.word-b.ensures.bounded)
 
 pub read_bucket-one-requires : goal.read_bucket-one-requires
-read_bucket-one-requires c = (c.requires.size_bound.1, rw c.word-b.ensures.value c.requires.index_inside.1.0)
+read_bucket-one-requires c = (c.requires.size_bound.1, rw c.word-b.ensures.value c.requires.size_in_bounds)
 
 pub returns-then-refused-ne0 : goal.returns-then-refused-ne0
-returns-then-refused-ne0 c = record { value = bucket_off _ _ _ _ _ _ _ _ c.requires.index_inside.1.1.0 c.word-b.ensures.value c.first_row-first.ensures c.first_row-past.ensures refl c.minus-rows.ensures c.minus-local.ensures c.read_bucket-one.ensures.value c.if-refused-ne0.true c.refusal.ensures; bounded = bounds-none }
+returns-then-refused-ne0 c = record { value = bucket_off _ _ _ _ _ _ _ _ c.requires.number_value.0 c.word-b.ensures.value c.first_row-first.ensures c.first_row-past.ensures refl c.minus-rows.ensures c.minus-local.ensures c.read_bucket-one.ensures.value c.if-refused-ne0.true c.refusal.ensures; bounded = bounds-none }
 
 pub returns : goal.returns
 returns c = record {
-  value = bucket_on _ _ _ _ _ _ _ _ c.requires.index_inside.1.1.0 c.word-b.ensures.value c.first_row-first.ensures c.first_row-past.ensures refl c.minus-rows.ensures c.minus-local.ensures c.read_bucket-one.ensures.value c.if-refused-ne0.false c.choose-start.ensures c.choose-offset.ensures;
+  value = bucket_on _ _ _ _ _ _ _ _ c.requires.number_value.0 c.word-b.ensures.value c.first_row-first.ensures c.first_row-past.ensures refl c.minus-rows.ensures c.minus-local.ensures c.read_bucket-one.ensures.value c.if-refused-ne0.false c.choose-start.ensures c.choose-offset.ensures;
   bounded = record {
-    start_most = cond_le (leb c.first_row-first.result c.args.row) (omega (arith, start_most c.requires.size_bound.0 c.word-b.ensures.bounded)) c.requires.index_inside.1.1.1.start_most c.choose-start.ensures;
-    offset_most = cond_le (leb c.first_row-first.result c.args.row) (omega (arith, c.read_bucket-one.ensures.bounded, c.requires.size_bound.0)) c.requires.index_inside.1.1.1.offset_most c.choose-offset.ensures;
+    start_most = cond_le (leb c.first_row-first.result c.args.row) (omega (arith, start_most c.requires.size_bound.0 c.word-b.ensures.bounded)) c.requires.number_value.1.start_most c.choose-start.ensures;
+    offset_most = cond_le (leb c.first_row-first.result c.args.row) (omega (arith, c.read_bucket-one.ensures.bounded, c.requires.size_bound.0)) c.requires.number_value.1.offset_most c.choose-offset.ensures;
   };
 }

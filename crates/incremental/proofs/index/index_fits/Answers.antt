@@ -5,7 +5,7 @@ use Rattle.incremental.proofs.index.Rising.{firsts_by}
 use Rattle.incremental.proofs.index.index_fits.Goals as goal
 
 pub buckets_apart-requires : goal.buckets_apart-requires
-buckets_apart-requires c = (c.requires.area, c.requires.index_inside.buckets_inside)
+buckets_apart-requires c = record { area = c.requires.area; n_in_bounds = c.requires.index_inside.buckets_inside }
 
 pub returns-then-not-buckets_apart : goal.returns-then-not-buckets_apart
 unfolding index_fits

@@ -17,7 +17,7 @@ pub returns-then-next-again : goal.returns-then-next-again
 returns-then-next-again c = out_twice c.loop-k.invariant (omega arith) (omega arith) c.start_of-p.ensures.0 c.word-next.ensures.value c.word-again.ensures.value c.if-next-again.true
 
 pub loop-k-preserved : goal.loop-k-preserved
-loop-k-preserved c = gathered_more c.loop-k.invariant c.requires.area (omega arith) (omega arith) c.start_of-p.ensures.0 c.word-next.ensures.value (c.if-next-again.false ∙ c.word-again.ensures.value) c.least-m.ensures.value c.copy.ensures c.copy.auto.1.1.1.0
+loop-k-preserved c = gathered_more c.loop-k.invariant c.requires.area (omega arith) (omega arith) c.start_of-p.ensures.0 c.word-next.ensures.value (c.if-next-again.false ∙ c.word-again.ensures.value) c.least-m.ensures.value c.copy.ensures c.copy.auto.dst
 
 pub returns-then-b-ne4294967295 : goal.returns-then-b-ne4294967295
 returns-then-b-ne4294967295 c = out_end c.loop-k.invariant (omega arith) c.if-b-ne4294967295.true

@@ -20,21 +20,21 @@ pub overflow_cast-managers-in-loop-i : goal.overflow_cast-managers-in-loop-i
 overflow_cast-managers-in-loop-i c = omega (arith, c.string-name.ensures.bounded)
 
 pub offset_bounds-managers-i : goal.offset_bounds-managers-i
-offset_bounds-managers-i c = omega (arith, (omega (arith, c.loop-i-test.true, c.requires)))
+offset_bounds-managers-i c = omega (arith, c.loop-i-test.true, c.requires)
 
 -- the place that a turn fills
 pub bounds-managers-i : goal.bounds-managers-i
 bounds-managers-i c = omega (arith, c.loop-i-test.true, c.requires)
 
 pub offset_bounds-numbers-i : goal.offset_bounds-numbers-i
-offset_bounds-numbers-i c = omega (arith, (omega (arith, c.loop-i-test.true, c.requires)))
+offset_bounds-numbers-i c = omega (arith, c.loop-i-test.true, c.requires)
 
 -- the place that a turn fills
 pub bounds-numbers-i : goal.bounds-numbers-i
 bounds-numbers-i c = omega (arith, c.loop-i-test.true, c.requires)
 
 pub overflow_add-i : goal.overflow_add-i
-overflow_add-i c = omega (arith, (omega (arith, c.loop-i-test.true, c.requires)))
+overflow_add-i c = omega (arith, c.loop-i-test.true, c.requires)
 
 pub loop-i-smaller : goal.loop-i-smaller
 loop-i-smaller c = omega arith
