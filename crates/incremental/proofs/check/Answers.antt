@@ -8,7 +8,11 @@ returns-then-before-ne0 c = out_parts _ _ _ _ _ _ _ c.read_parts-parts.ensures.v
 pub find_cell-found-requires : goal.find_cell-found-requires
 find_cell-found-requires c =
     let b = c.read_parts-parts.ensures.shown c.if-before-ne0.false in
-    ((b.size_most, c.gather_cells-cells.ensures.few), (b.inside, (b.buckets, b.numbers)))
+    record {
+      size_bound = (b.size_most, c.gather_cells-cells.ensures.few);
+      index_inside = b.inside;
+      buckets_inside = (b.buckets, b.numbers);
+    }
 
 pub returns-then-wrong-ne0 : goal.returns-then-wrong-ne0
 returns-then-wrong-ne0 c =

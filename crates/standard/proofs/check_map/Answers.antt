@@ -37,4 +37,4 @@ pub returns-then-k-lt16 : goal.returns-then-k-lt16
 returns-then-k-lt16 c = map_right (last _ _ _ c.args.h _ _ c.loop-i.invariant c.loop-i-test.false c.requires.n_bound.1 c.sets_fit.ensures c.if-not-sets_fit.false c.columns_fit.ensures c.if-not-columns_fit.false c.buckets_apart.ensures) c.if-not-buckets_apart.false refl
 
 pub returns : goal.returns
-returns c = map_right (last _ _ _ c.args.h _ _ c.loop-i.invariant c.loop-i-test.false c.requires.n_bound.1 c.sets_fit.ensures c.if-not-sets_fit.false c.columns_fit.ensures c.if-not-columns_fit.false c.buckets_apart.ensures) c.if-not-buckets_apart.false (past 16 c.args.t5 c.no_set-none.ensures c.loop-i.invariant.places c.if-k-lt16.false)
+returns c = map_right (last _ _ _ c.args.h _ _ c.loop-i.invariant c.loop-i-test.false c.requires.n_bound.1 c.sets_fit.ensures c.if-not-sets_fit.false c.columns_fit.ensures c.if-not-columns_fit.false c.buckets_apart.ensures) c.if-not-buckets_apart.false (past 16 c.args.sets c.no_set-none.ensures c.loop-i.invariant.places c.if-k-lt16.false)

@@ -11,9 +11,13 @@ loop-i-init c = (omega arith, after_none _ _, omega arith, bounds-none)
 
 pub read_entry-found-requires : goal.read_entry-found-requires
 read_entry-found-requires c =
-    let p = c.requires in
     let v = c.loop-i.invariant in
-    ((p.0.0, p.0.1, omega arith), (p.1.0, (p.1.1 _ (omega arith), (v.2, v.3))))
+    record {
+      size_bound = (c.requires.size_bound.0, c.requires.size_bound.1, omega arith);
+      index_inside = c.requires.index_inside;
+      size_in_bounds = c.requires.buckets_inside _ (omega arith);
+      number_value = (v.2, v.3);
+    }
 
 pub returns-then-found-ne0 : goal.returns-then-found-ne0
 unfolding search_of

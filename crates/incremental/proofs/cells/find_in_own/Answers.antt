@@ -8,13 +8,17 @@ pub returns-then-rows-row : goal.returns-then-rows-row
 returns-then-rows-row c = record { value = own_off _ _ _ _ _ _ _ c.if-rows-row.true; bounded = bounds-none }
 
 pub find_entry-i-requires : goal.find_entry-i-requires
-find_entry-i-requires c = let p = c.requires in (p.1.0, p.1.1.1, omega arith)
+find_entry-i-requires c = (c.requires.index_inside, c.requires.buckets_inside.1, omega arith)
 
 pub read_entry-requires : goal.read_entry-requires
 read_entry-requires c =
-    let p = c.requires in
     let k = c.find_entry-i.ensures.known in
-    ((p.0.0, p.0.1, k), (p.1.0, (p.1.1.0 _ k, (refl, bounds-none))))
+    record {
+      size_bound = (c.requires.size_bound.0, c.requires.size_bound.1, k);
+      index_inside = c.requires.index_inside;
+      size_in_bounds = c.requires.buckets_inside.0 _ k;
+      number_value = (refl, bounds-none);
+    }
 
 pub returns : goal.returns
 returns c = record { value = own_on _ _ _ _ _ _ _ (omega arith) c.find_entry-i.ensures.value c.read_entry.ensures.value; bounded = c.read_entry.ensures.bounded }
