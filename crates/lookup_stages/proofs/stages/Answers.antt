@@ -68,7 +68,7 @@ loop-i-preserved c = gathering_again _ _ _ c.loop-i.invariant (omega arith) (sea
 pub check-here-requires : goal.check-here-requires
 check-here-requires c =
     let v = c.loop-i.invariant in
-    (v.few, (offsets_low _ _ _ v (omega arith), bits_low _ _ _ v (omega arith)))
+    record { n_bound = v.few; by_index = (offsets_low _ _ _ v (omega arith), bits_low _ _ _ v (omega arith)) }
 
 pub returns : goal.returns
 unfolding no_column no_binding
