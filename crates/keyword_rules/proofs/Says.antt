@@ -156,8 +156,8 @@ every_keyword s scope path sought =
 
 -- a search that is the definition's says what every one does
 pub says : (s : List ℕ) (scope : Scope) (path : List ℕ) (sought : Sought) {x : Search} → x ≡ keyword_search s scope path sought
-    → (x ≡ keyword_search s scope path sought) × (SearchSays s scope x)
-says s scope path sought e = (e, rw e (every_keyword s scope path sought))
+    → record { value : x ≡ keyword_search s scope path sought; says : SearchSays s scope x }
+says s scope path sought e = record { value = e; says = rw e (every_keyword s scope path sought) }
 
 -- the same of what each question answers
 pub keyword_there : (s : List ℕ) (scope : Scope) (path : List ℕ) → KeywordThere s scope (keyword_of s scope path)
@@ -182,12 +182,12 @@ field_there s scope path k =
 
 -- an answer that is the definition's
 pub keyword_told : (s : List ℕ) (scope : Scope) (path : List ℕ) {x : Keyword} → x ≡ keyword_of s scope path
-    → (x ≡ keyword_of s scope path) × (KeywordThere s scope x)
-keyword_told s scope path e = (e, rw e (keyword_there s scope path))
+    → record { value : x ≡ keyword_of s scope path; there : KeywordThere s scope x }
+keyword_told s scope path e = record { value = e; there = rw e (keyword_there s scope path) }
 
 pub field_told : (s : List ℕ) (scope : Scope) (path : List ℕ) (n : ℕ) {x : Field} → x ≡ field_of s scope path n
-    → (x ≡ field_of s scope path n) × (FieldThere s scope x)
-field_told s scope path n e = (e, rw e (field_there s scope path n))
+    → record { value : x ≡ field_of s scope path n; there : FieldThere s scope x }
+field_told s scope path n e = record { value = e; there = rw e (field_there s scope path n) }
 
 -- what is found begins in the file, and so does what is not
 pub start_in_lem : (s : List ℕ) (scope : Scope) (x : Search) → SearchSays s scope x → x.found.start ≤ length s

@@ -9,6 +9,6 @@ pub returns : goal.returns
 returns c =
     let e = c.search-asked.ensures in
     let p = c.args.s.ref_ptr in (
-      rw (← e.0) c.part_from.ensures.0,
-      rw (← e.0) (c.part_from.ensures.1 ∙ ap (λ (k : ℕ). (p.0, p.1 + k)) (length-take-le _ _ (start_in_lem _ _ _ e.1))),
+      rw (← e.value) c.part_from.ensures.0,
+      rw (← e.value) (c.part_from.ensures.1 ∙ ap (λ (k : ℕ). (p.0, p.1 + k)) (length-take-le _ _ (start_in_lem _ _ _ e.says))),
     )

@@ -28,11 +28,11 @@ returns-then-refused-ne0 t c =
 
 pub walk-x-requires : goal.walk-x-requires
 unfolding walk_with field_once
-walk-x-requires t c = omega (arith, pos_of_ne-zero c.if-deeper-eq0.false, c.requires.0)
+walk-x-requires t c = omega (arith, pos_of_ne-zero c.if-deeper-eq0.false)
 
 pub overflow_add-i : goal.overflow_add-i
 unfolding walk_with field_once
-overflow_add-i t c = omega (arith, c.loop-i-test, c.well-formed)
+overflow_add-i t c = omega (arith, c.loop-i-test, c.well_formed)
 
 pub loop-i-smaller : goal.loop-i-smaller
 unfolding walk_with field_once
