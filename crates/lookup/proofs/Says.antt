@@ -13,19 +13,28 @@ use Rattle.lookup_rules.proofs.Said.{every_answer}
 
 module _ (t f : List ℕ) (q : Question) (l : ℕ) {room : List ℕ} (left : room ≡ room_after t f q l) where
   pub verdict_says : {r : Verdict} → r ≡ verdict_of (answer_of t f q l)
-      → ((r ≡ verdict_of (answer_of t f q l)) × (room ≡ room_after t f q l)) × (verdict_refusal r ≡ (answer_of t f q l).refused)
-  verdict_says e = ((e, left), ap verdict_refusal e ∙ (every_answer t f q l).verdict)
+      → record { value : (r ≡ verdict_of (answer_of t f q l)) × (room ≡ room_after t f q l); says : verdict_refusal r ≡ (answer_of t f q l).refused }
+  verdict_says e = record { value = (e, left); says = ap verdict_refusal e ∙ (every_answer t f q l).verdict }
 
   pub planned_says : {r : Planned} → r ≡ planned_of (answer_of t f q l)
-      → ((r ≡ planned_of (answer_of t f q l)) × (room ≡ room_after t f q l))
-      × ((planned_refusal r ≡ (answer_of t f q l).refused) × (planned_plan r ≡ (answer_of t f q l).plan))
-  planned_says e = ((e, left), (ap planned_refusal e ∙ (every_answer t f q l).planned, ap planned_plan e ∙ (every_answer t f q l).plan))
+      → record {
+        value : (r ≡ planned_of (answer_of t f q l)) × (room ≡ room_after t f q l);
+        says : (planned_refusal r ≡ (answer_of t f q l).refused) × (planned_plan r ≡ (answer_of t f q l).plan);
+      }
+  planned_says e = record {
+    value = (e, left);
+    says = (ap planned_refusal e ∙ (every_answer t f q l).planned, ap planned_plan e ∙ (every_answer t f q l).plan);
+  }
 
   pub placed_says : {r : Placed} → r ≡ placed_of (answer_of t f q l)
-      → ((r ≡ placed_of (answer_of t f q l)) × (room ≡ room_after t f q l))
-      × ((placed_refusal r ≡ (answer_of t f q l).refused) × (placed_bits r ≡ answer_bits (answer_of t f q l)) × (placed_looks r ≡ answer_looks (answer_of t f q l)))
-  placed_says e =
-      ((e, left), (ap placed_refusal e ∙ (every_answer t f q l).placed, ap placed_bits e ∙ (every_answer t f q l).bits, ap placed_looks e ∙ (every_answer t f q l).looks))
+      → record {
+        value : (r ≡ placed_of (answer_of t f q l)) × (room ≡ room_after t f q l);
+        says : (placed_refusal r ≡ (answer_of t f q l).refused) × (placed_bits r ≡ answer_bits (answer_of t f q l)) × (placed_looks r ≡ answer_looks (answer_of t f q l));
+      }
+  placed_says e = record {
+    value = (e, left);
+    says = (ap placed_refusal e ∙ (every_answer t f q l).placed, ap placed_bits e ∙ (every_answer t f q l).bits, ap placed_looks e ∙ (every_answer t f q l).looks);
+  }
 
   pub in_bucket_says : {r : PlacedInBucket} → r ≡ placed_in_bucket_of (answer_of t f q l)
       → ((r ≡ placed_in_bucket_of (answer_of t f q l)) × (room ≡ room_after t f q l))

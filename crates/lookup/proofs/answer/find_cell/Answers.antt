@@ -11,7 +11,7 @@ returns-then-s c = found_there _ _ _ c.if-s-ne0.false c.if-r.true c.if-s.true
 pub locate-requires : goal.locate-requires
 locate-requires c =
     let h = can_find _ _ c.args.r c.if-s-ne0.false c.if-r.true c.if-s.false c.requires in
-    (h.inside, ((h.size_most, h.offset_most, h.bits_most), λ n. h.local_below))
+    record { set_inside = h.inside; size_bound = (h.size_most, h.offset_most, h.bits_most); row_bound = λ n. h.local_below }
 
 pub returns-then-r : goal.returns-then-r
 returns-then-r c = found_here _ _ c.args.r c.if-s-ne0.false c.if-r.true c.if-s.false c.requires c.locate.ensures.0

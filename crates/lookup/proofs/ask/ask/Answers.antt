@@ -6,12 +6,12 @@ use Rattle.lookup.proofs.ask.ask.Goals as goal
 pub find_cell-cell-requires : goal.find_cell-cell-requires
 find_cell-cell-requires c =
     let s = c.stages-s.ensures in
-    findable_by _ _ c.args.q _ c.read-r.ensures s.0.0 s.0.1 s.1.0 s.1.1
+    findable_by _ _ c.args.q _ c.read-r.ensures s.value.0 s.value.1 s.bounded.0 s.bounded.1
 
 pub returns : goal.returns
 returns c =
     let o = c.read-r.ensures in
     let s = c.stages-s.ensures in (
-      answer_by _ _ c.args.q _ o s.0.0 s.0.1 c.find_cell-cell.ensures c.answer.ensures,
-      room_is _ _ c.args.q _ o s.0.0 s.0.1 c.stages-s.auto.1.1.1.0 c.keeps_text-keep.ensures c.settle.ensures,
+      answer_by _ _ c.args.q _ o s.value.0 s.value.1 c.find_cell-cell.ensures c.answer.ensures,
+      room_is _ _ c.args.q _ o s.value.0 s.value.1 c.stages-s.auto.room c.keeps_text-keep.ensures c.settle.ensures,
     )

@@ -1,0 +1,14 @@
+-- `c_api::answer_place` meets its contract: its calls compose as the definition says.
+use mathlib.Core.Path.{ap}
+use Rattle.lookup_rules.specs.declared.Answer.{Answer}
+use Rattle.c_api.proofs.answer_place.Goals as goal
+
+pub returns : goal.returns
+returns c =
+    let a = c.ask-a.ensures in
+    let v = c.of_place-values.ensures in
+    let told = c.write.ensures in (
+      ap (λ (x : Answer). x.refused.number) a.0,
+      rw (← a.0, ← v) told,
+      a.1,
+    )

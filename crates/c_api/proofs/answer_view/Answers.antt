@@ -1,0 +1,15 @@
+-- `c_api::answer_view` meets its contract: its calls compose as the definition says.
+use mathlib.Core.Path.{ap}
+use Rattle.lookup_rules.specs.declared.Answer.{Answer}
+use Rattle.c_api.proofs.answer_view.Goals as goal
+
+pub returns : goal.returns
+returns c =
+    let a = c.ask-a.ensures in
+    let p = c.part_of-part.ensures.0 in
+    let v = c.of_view-values.ensures in
+    let told = c.write.ensures in (
+      ap (λ (x : Answer). x.refused.number) a.0,
+      rw (← a.0, ← p, ← v) told,
+      a.1,
+    )
