@@ -61,8 +61,8 @@ carried_there t f l row a e = record {
 -- `place_by`: an arm's call is the question that is asked
 pub by_arm : (t f : List ℕ) (l row : ℕ) (a b : Asked) {p : Placed} {x : List ℕ} → a ≡ b
     → (p ≡ placed_of (answer_of t f (Place row b) l)) × (x ≡ room_after t f (Place row b) l)
-    → ((p ≡ placed_of (answer_of t f (Place row a) l)) × (x ≡ room_after t f (Place row a) l)) × PlacedThere t f row a p
+    → record { value : (p ≡ placed_of (answer_of t f (Place row a) l)) × (x ≡ room_after t f (Place row a) l); there : PlacedThere t f row a p }
 by_arm t f l row a b {p} {x} e h =
     let y : p ≡ placed_of (answer_of t f (Place row a) l) = h.0 ∙ ap (λ (k : Asked). placed_of (answer_of t f (Place row k) l)) (sym e) in
     let z : x ≡ room_after t f (Place row a) l = h.1 ∙ ap (λ (k : Asked). room_after t f (Place row k) l) (sym e) in
-    ((y, z), carried_there t f l row a y)
+    record { value = (y, z); there = carried_there t f l row a y }
