@@ -3,94 +3,82 @@
 // not be written.
 #![tactic(auto)]
 
+ghost use Rattle.std.specs.Prelude.{◌≤◌, length, IfOk};
+
 use bytes_at::Refusal;
-use libc::{STDERR_FILENO, STDIN_FILENO, STDOUT_FILENO};
+use std::io;
+use std::io::{Read, Write};
 use table_rules::Column;
 
-fn print(text: &[u8]) -> bool {
-    io::write_all(STDOUT_FILENO, text)
-}
-
-fn print_number(n: usize) -> bool {
-    io::print_decimal(STDOUT_FILENO, n as u64)
-}
-
 // A line: position, name, type, elements or 0 where they are not fixed, sequence number.
-fn print_column(s: &[u8], position: usize, c: Column, sequence: usize) -> bool {
+fn print_column<W: Write>(
+    out: &mut W,
+    s: &[u8],
+    position: usize,
+    c: Column,
+    sequence: usize,
+) -> io::Result<()> {
     let t = c.datatype;
     let name = t.name();
     let len = t.name_len();
-    let mut whole = print_number(position);
-    whole = print(b" ") & whole;
-    whole = print(bytes_at::part(s, c.start, c.len)) & whole;
-    whole = print(b" ") & whole;
-    whole = print(bytes_at::part(&name, 0, len)) & whole;
-    whole = print(b" ") & whole;
-    whole = print_number(c.elements as usize) & whole;
-    whole = print(b" ") & whole;
-    whole = print_number(sequence) & whole;
-    print(b"\n") & whole
+    let elements = c.elements;
+    write!(out, "{position} ")?;
+    out.write_all(bytes_at::part(s, c.start, c.len))?;
+    out.write_all(b" ")?;
+    out.write_all(bytes_at::part(&name, 0, len))?;
+    writeln!(out, " {elements} {sequence}")
 }
 
-fn print_refusal(why: Refusal) -> bool {
-    let mut whole = print(b"refused ");
-    whole = print_number(why.number) & whole;
-    whole = print(b" ") & whole;
-    whole = print_number(why.byte) & whole;
-    print(b"\n") & whole
+fn print_refusal<W: Write>(out: &mut W, why: Refusal) -> io::Result<()> {
+    let number = why.number;
+    let byte = why.byte;
+    writeln!(out, "refused {number} {byte}")
 }
 
-fn print_counts(rows: usize, columns: usize) -> bool {
-    let mut whole = print(b"rows ");
-    whole = print_number(rows) & whole;
-    whole = print(b" columns ") & whole;
-    whole = print_number(columns) & whole;
-    print(b"\n") & whole
-}
-
-// The listing of the table that a table.dat describes; false where not all of it could be written.
-fn list(s: &[u8]) -> bool {
+// The listing of the table that a table.dat describes.
+fn list<W: Write>(out: &mut W, s: &[u8]) -> io::Result<()> {
     let d = table::describe(s);
     let refused = d.refused;
     if refused.number != 0 {
-        return print_refusal(refused);
+        return print_refusal(out, refused);
     }
     let columns = d.columns;
     let bindings = d.bindings;
+    let rows = d.rows;
     let count = d.column_count;
-    let mut whole = print_counts(d.rows, count);
-    let mut i = 0;
-    while i < count {
+    writeln!(out, "rows {rows} columns {count}")?;
+    for i in 0..count {
         let c = columns[i];
         let b = bindings[i];
-        whole = print_column(s, i, c, b.sequence as usize) & whole;
-        i += 1;
+        print_column(out, s, i, c, b.sequence as usize)?;
     }
-    whole
+    Ok(())
 }
 
-// Whether these n bytes are all that is needed: the input ends here, or it is longer than a table.dat may be. A read that failed
-// fails again, or there is more.
-fn is_all(n: usize) -> bool {
-    if n > 65536 {
-        return true;
+// As much of the input as the buffer holds, which is how many bytes. A turn reads one byte at least.
+fn read_all<R: Read>(input: &mut R, buffer: &mut [u8]) -> io::Result<usize>
+    ensures { IfOk result (λ n. n ≤ length buffer.new) }
+{
+    let len = buffer.len();
+    let mut n = 0;
+    for _ in 0..len {
+        let got = input.read(&mut buffer[n..])?;
+        if got == 0 {
+            break;
+        }
+        n += got;
     }
-    let mut next = [0u8; 1];
-    libc::read(STDIN_FILENO, &mut next) == 0
+    Ok(n)
 }
 
-fn main() {
+fn main(rt: HostRuntime) -> io::Result<()> {
     // One byte more than a table.dat may have, so that a longer one is seen to be too long.
     let mut buffer = [0u8; 65537];
-    let n = io::read_full(STDIN_FILENO, &mut buffer);
-    let all = is_all(n);
-    if all {
-        let listed = list(&buffer[..n]);
-        if listed {
-            return;
-        }
-        io::write_all(STDERR_FILENO, b"listing: cannot write standard output\n");
-        return;
+    match read_all(&mut rt.stdin(), &mut buffer) {
+        Ok(n) => match list(&mut rt.stdout(), &buffer[..n]) {
+            Ok(()) => Ok(()),
+            Err(_) => eprintln!(rt; "listing: cannot write standard output"),
+        },
+        Err(_) => eprintln!(rt; "listing: cannot read standard input"),
     }
-    io::write_all(STDERR_FILENO, b"listing: cannot read standard input\n");
 }
