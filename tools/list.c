@@ -16,10 +16,8 @@ static void print_column(uint64_t position, const struct column *column)
 {
     const uint64_t *numbers = column->numbers;
 
-    printf("%" PRIu64 " \"%s\" %s %" PRIu64 " %" PRIu64, position, column->name,
+    printf("%" PRIu64 " \"%s\" %s %" PRIu64 " %" PRIu64 "\n", position, column->name,
            data_type_name(numbers[HV_COLUMN_DATA_TYPE]), numbers[HV_COLUMN_ELEMENTS], numbers[HV_COLUMN_SEQUENCE]);
-    print_units(&column->units);
-    printf("\n");
 }
 
 static void print_manager(const struct manager *manager)
@@ -64,7 +62,6 @@ static void json_column(uint64_t position, const struct column *column)
     json_text("type", data_type_name(column->numbers[HV_COLUMN_DATA_TYPE]));
     json_number("elements", column->numbers[HV_COLUMN_ELEMENTS]);
     json_number("manager", column->numbers[HV_COLUMN_SEQUENCE]);
-    json_units(&column->units);
     json_object_end();
 }
 
@@ -110,9 +107,8 @@ const struct command list_command = {
     .summary = "the columns and data managers of a table, and the verdicts on its files",
     .help = "Lists the Casacore table in a directory: the row count, the number of columns and the byte order; a line\n"
             "for each column (position, name, type, elements or 0 where the shape is not fixed, sequence number of\n"
-            "its data manager; behind that its unit, or units, if it has them: its keyword QuantumUnits, or else\n"
-            "UNIT; or that its keywords are refused, and with what number, which changes no verdict); a line for\n"
-            "each data manager (sequence number, kind, file, bucket size) with the verdict on its file:\n"
+            "its data manager); a line for each data manager (sequence number, kind, file, bucket size) with the\n"
+            "verdict on its file:\n"
             "  accepted\n"
             "  refused N: why\n"
             "  not checked: only StandardStMan and IncrementalStMan files are read\n"

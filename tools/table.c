@@ -170,7 +170,6 @@ static uint64_t ask_column(struct column *column, struct bytes table, uint64_t p
     struct bytes name = {table.at + column->numbers[HV_COLUMN_NAME], column->numbers[HV_COLUMN_NAME_LEN]};
 
     column->name = escaped(name);
-    column->units = units_of(table, position);
     return number;
 }
 
@@ -199,10 +198,8 @@ static void free_parts(struct table *table)
 {
     uint64_t i;
 
-    for (i = 0; i < table->column_count; i++) {
+    for (i = 0; i < table->column_count; i++)
         free(table->columns[i].name);
-        units_free(&table->columns[i].units);
-    }
     for (i = 0; i < table->manager_count; i++) {
         free(table->managers[i].name);
         free(table->managers[i].path);

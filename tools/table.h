@@ -4,7 +4,6 @@
 
 #include "dump.h"
 #include "helvidrane.h"
-#include "units.h"
 
 enum outcome { OUTCOME_ACCEPTED, OUTCOME_REFUSED, OUTCOME_NOT_CHECKED, OUTCOME_NOT_READ };
 
@@ -18,7 +17,6 @@ struct verdict {
 struct column {
     char *name; /* escaped */
     uint64_t numbers[HV_COLUMN_LEN];
-    struct units units;
 };
 
 struct manager {

@@ -1,4 +1,7 @@
-/* The units of a column: what its keyword QuantumUnits says, or else UNIT, if that is a String or an array of Strings. */
+/*
+ * The units of a column: what its keyword QuantumUnits says, or else UNIT, if that is a String or an array of Strings. No command
+ * shows them: hv list prints what it printed before there were keywords, and a unit is read with hv keywords.
+ */
 #ifndef UNITS_H
 #define UNITS_H
 
