@@ -145,7 +145,7 @@ fn main() {
     let pair = |table, file, number| Pair { table: list(&text, table), file: list(&text, file), number };
     let small = SmallFile {
         name: "",
-        pair: pair("tableDat", "f0", u32::from_be_bytes),
+        pair: pair("table_dat", "f0", u32::from_be_bytes),
         offset: 933,
         last: 760,
         buckets: 53,
@@ -154,7 +154,7 @@ fn main() {
     };
     let little = SmallFile {
         name: "little ",
-        pair: pair("littleDat", "littleF0", u32::from_le_bytes),
+        pair: pair("little_dat", "little_f0", u32::from_le_bytes),
         offset: 978,
         last: 757,
         buckets: 50,
@@ -170,7 +170,7 @@ fn main() {
         assert_eq!(&std::fs::read(sample).expect(sample), bytes, "{sample} is that of {path}");
     }
 
-    let bools = pair("boolsDat", "boolsF0", u32::from_be_bytes);
+    let bools = pair("bools_dat", "bools_f0", u32::from_be_bytes);
     let last = line("L", &bools, &[], &[], Place { row: 1, column: "FLAG" });
     for line in lines(&small).into_iter().chain([last]).chain(lines(&little)) {
         println!("{line}");
