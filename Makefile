@@ -73,7 +73,7 @@ check:
 	tests/run
 
 clean:
-	rm -rf target
+	rm -rf target crates/*/out
 
 help:
 	@echo "make            proves and builds the libraries and hv, in target/"
@@ -81,4 +81,4 @@ help:
 	@echo "                goes before it. Also bindir, includedir, libdir, pkgconfigdir, mandir and docdir may be given"
 	@echo "make uninstall  removes what make install put there; give it the same variables"
 	@echo "make check      runs all tests, as tests/run does"
-	@echo "make clean      removes target/, and with it what was proved"
+	@echo "make clean      removes target/ and crates/*/out/, and with them what was proved"

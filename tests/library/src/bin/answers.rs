@@ -206,7 +206,7 @@ fn answer(program: &str, line: &str) -> io::Result<Option<String>> {
 }
 
 fn main() -> io::Result<()> {
-    let program = std::env::var("HELVIDRANE_LISTING").unwrap_or_else(|_| "target/bin/listing".to_string());
+    let program = std::env::var("HELVIDRANE_LISTING").unwrap_or_else(|_| "crates/listing/out/listing".to_string());
     let mut input = io::stdin().lock();
     let mut out = BufWriter::new(io::stdout().lock());
     let mut line = Vec::new();
