@@ -37,13 +37,14 @@ $(ARCHIVE): FORCE
 target/bin/hv: $(ARCHIVE) FORCE
 	@. tools/functions; hv_is_current || { need cc "to compile hv"; tools/build; }
 
+# Its other names are no symbolic links, which rt ci takes nowhere in the repository.
 target/lib/$(SHARED): $(ARCHIVE) library/helvidrane.map Makefile
 	@. tools/functions; need cc "to link the shared library"
 	cc -shared -Wl,-soname,$(SONAME) -Wl,--version-script=library/helvidrane.map \
 	    -Wl,-z,defs -Wl,-z,text -Wl,-z,noexecstack -Wl,-z,relro -Wl,-z,now \
 	    -Wl,--whole-archive $(ARCHIVE) -Wl,--no-whole-archive -o $@
-	ln -sf $(SHARED) target/lib/$(SONAME)
-	ln -sf $(SONAME) target/lib/$(NAME)
+	ln -f $@ target/lib/$(SONAME)
+	ln -f $@ target/lib/$(NAME)
 
 install: all
 	install -d "$(DESTDIR)$(bindir)" "$(DESTDIR)$(includedir)" "$(DESTDIR)$(libdir)" "$(DESTDIR)$(pkgconfigdir)" \
