@@ -34,7 +34,7 @@ pub fn sized(s: &[u8], c: Cursor, width: Width) -> Value
     }
 }
 
-// A u_int, or an Int as the u_int of the same bytes.
+// A uInt, or an Int as the uInt of the same bytes.
 pub fn uint(s: &[u8], c: Cursor) -> Value
     ensures value { result ≡ uint_at s.now c }
     ensures bounded { result.value < 4294967296 }

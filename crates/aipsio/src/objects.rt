@@ -126,7 +126,7 @@ fn block_head(s: &[u8], c: Cursor, n: usize) -> Cursor
     crate::numbers::agree(s, o.next, n)
 }
 
-// A Block of n u_ints: where they start, and the cursor past it.
+// A Block of n uInts: where they start, and the cursor past it.
 pub fn block(s: &[u8], c: Cursor, n: usize) -> Value
     ensures { result ≡ block_at s.now c n }
 {

@@ -9,7 +9,7 @@ use Rattle.aipsio_rules.specs.declared.Cursor.{Cursor}
 use Rattle.aipsio_rules.specs.declared.Value.{Value}
 use Rattle.aipsio_rules.specs.declared.Text.{Text}
 
--- An Int is the u_int of the same bytes: -1, -2 and -3.
+-- An Int is the uInt of the same bytes: -1, -2 and -3.
 abbrev pub minus_one : ℕ
 minus_one = 4294967295
 
@@ -68,7 +68,7 @@ sized_at s c width = do
   d ← skipped c width
   settled v d
 
--- a u_int
+-- a uInt
 unfoldable pub uint_at : List ℕ → Cursor → Value
 uint_at s c = do
   v ← uint_of c.big 4 s c.at
@@ -87,7 +87,7 @@ ranged_at s c width low high refusal = do
 abbrev pub number_at : List ℕ → Cursor → ℕ → ℕ → ℕ → Value
 number_at s c width low high = ranged_at s c width low high 4
 
--- a row number of so many bytes: "Negative row numbers give 4". A u_int is never negative.
+-- a row number of so many bytes: "Negative row numbers give 4". A uInt is never negative.
 abbrev pub row_at : List ℕ → Cursor → ℕ → Value
 row_at s c width = number_at s c width 0 most_int64
 
@@ -122,7 +122,7 @@ text_before c n =
     (record { start = c.at - n; len = n; next = c })
     (record { start = 0; len = 0; next = c })
 
--- a String: a u_int length and its bytes, one field
+-- a String: a uInt length and its bytes, one field
 unfoldable pub text_at : List ℕ → Cursor → Text
 text_at s c = do
   n ← uint_of c.big 4 s c.at

@@ -52,7 +52,7 @@ block_head_at s c n = do
   o ← opened s c (bytes "Block") 1 1
   agreed s o.next n
 
--- a Block of n u_ints. Gives where they start.
+-- a Block of n uInts. Gives where they start.
 unfoldable pub block_at : List ℕ → Cursor → ℕ → Value
 block_at s c n = do
   k ← block_head_at s c n
@@ -64,7 +64,7 @@ block_at s c n = do
 unfoldable pub rows_at : List ℕ → Cursor → ℕ → ℕ → Cursor
 rows_at s c n width = after (λ (d : Cursor) (i : ℕ). (row_at s d width).next) c n
 
--- a Block of n row numbers, u_ints or Int64s, which are looked at one by one. Gives where they start.
+-- a Block of n row numbers, uInts or Int64s, which are looked at one by one. Gives where they start.
 unfoldable pub row_block_at : List ℕ → Cursor → ℕ → ℕ → Value
 row_block_at s c n width = do
   k ← block_head_at s c n

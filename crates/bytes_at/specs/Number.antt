@@ -27,7 +27,7 @@ bytes_of Two = 2
 bytes_of Four = 4
 bytes_of Eight = 8
 
--- an Int or a u_int has 4 bytes, an Int64, where wide, has 8
+-- an Int or a uInt has 4 bytes, an Int64, where wide, has 8
 abbrev pub int_width : Bool → Width
 int_width wide = cond wide Eight Four
 

@@ -27,7 +27,7 @@ pub enum Width {
 }
 
 impl Width {
-    // An Int's or a u_int's; an Int64's where wide.
+    // An Int's or a uInt's; an Int64's where wide.
     pub fn of_int(wide: bool) -> Width
         ensures { result ≡ int_width wide }
     {

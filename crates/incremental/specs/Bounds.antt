@@ -15,7 +15,7 @@ pub record HeaderBounds (h : Header) : Type 0 where
   pub count_most : h.count ≤ 4096
   pub size_least : h.refused.number ≡ 0 → 16 ≤ h.size
 
--- the numbers without a range are u_ints
+-- the numbers without a range are uInts
 pub record HeaderWords (h : Header) : Type 0 where
   pub free_count : h.free_count < 4294967296
   pub first_free : h.first_free < 4294967296

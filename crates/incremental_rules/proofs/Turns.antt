@@ -39,7 +39,7 @@ leb_minus v b d h =
 pub same : (c : Cursor) → Clean c → record { at = c.at; end = c.end; big = c.big; refused = 0 } ≡ c
 same c h = ap (λ (x : ℕ). record { at = c.at; end = c.end; big = c.big; refused = x }) (sym h)
 
--- ---- a u_int
+-- ---- a uInt
 module _ (s : List ℕ) (c : Cursor) (h : Clean c) {left : ℕ} (e : left ≡ left_in c) where
   pub uint_short : left < 4 → record { value = 0; next = refused_at c c.at 1 } ≡ uint_at s c
   uint_short l = sized_short s c h e refl l refl ∙ sym (uint_is s c)

@@ -31,7 +31,7 @@ is_iposition s c = do
   e ← name_at s d (bytes "IPosition")
   eqb e.refused 0
 
--- "a count and Ints": a u_int and as many Ints
+-- "a count and Ints": a uInt and as many Ints
 unfoldable pub counted_at : List ℕ → Cursor → Cursor
 counted_at s c = do
   n ← uint_at s c

@@ -120,7 +120,7 @@ fn add_length(s: &[u8], product: Value) -> Value
     aipsio::settle(more, axis.next)
 }
 
-// The product of n axes, 0 where there are none. Stops at the first refusal: n may be any u_int.
+// The product of n axes, 0 where there are none. Stops at the first refusal: n may be any uInt.
 fn read_lengths(s: &[u8], c: Cursor, n: usize) -> Value
     ensures value { result ≡ lengths_at s.now c n }
     ensures bounded { result.value ≤ 4294967296 }

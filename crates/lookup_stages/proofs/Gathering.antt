@@ -17,7 +17,7 @@ use Rattle.standard.specs.Columns.{column_by, columns_by}
 use Rattle.standard.proofs.columns.Listed.{listed, listed_same, filled, filled_none, filled_more, filled_at}
 use Rattle.standard.proofs.columns.Facts.{columns_listed}
 
--- the first i numbers of a list of 64 are u_ints
+-- the first i numbers of a list of 64 are uInts
 pub record Words (l : List ℕ) (i : ℕ) : Type 0 where
   pub places : length l ≡ 64
   pub each : (j : ℕ) → j < i → get_or l j 0 < 4294967296

@@ -4,7 +4,7 @@ use Rattle.bytes_at.specs.Number.{int_bytes}
 use Rattle.standard_rules.specs.declared.Header.{Header}
 use Rattle.standard_rules.specs.declared.Set.{Set}
 
--- the numbers without a range are u_ints
+-- the numbers without a range are uInts
 pub record HeaderWords (h : Header) : Type 0 where
   pub free_count : h.free_count < 4294967296
   pub first_free : h.first_free < 4294967296

@@ -20,11 +20,11 @@ abbrev pub types : List TypeRow
 types =
     -- | T | Number | Bytes of an element |
     row (bytes "Bool") 0 1  -- | Bool | 0 | a bit |
-    ∷ row (bytes "uChar") 2 (1 * 8)  -- | u_char | 2 | 1 |
+    ∷ row (bytes "uChar") 2 (1 * 8)  -- | uChar | 2 | 1 |
     ∷ row (bytes "Short") 3 (2 * 8)  -- | Short | 3 | 2 |
-    ∷ row (bytes "uShort") 4 (2 * 8)  -- | u_short | 4 | 2 |
+    ∷ row (bytes "uShort") 4 (2 * 8)  -- | uShort | 4 | 2 |
     ∷ row (bytes "Int") 5 (4 * 8)  -- | Int | 5 | 4 |
-    ∷ row (bytes "uInt") 6 (4 * 8)  -- | u_int | 6 | 4 |
+    ∷ row (bytes "uInt") 6 (4 * 8)  -- | uInt | 6 | 4 |
     ∷ row (bytes "float") 7 (4 * 8)  -- | float | 7 | 4 |
     ∷ row (bytes "double") 8 (8 * 8)  -- | double | 8 | 8 |
     ∷ row (bytes "Complex") 9 (8 * 8)  -- | Complex | 9 | 8 |
@@ -56,11 +56,11 @@ type_name t = (nth_row (type_place t.number)).name
 unfoldable pub element_bits : ℕ → ℕ
 element_bits n =
     cond (eqb n 0) 1  -- | Bool | 1 byte |: a bit
-    (cond (eqb n 2) (1 * 8)  -- | u_char | 1 byte |
+    (cond (eqb n 2) (1 * 8)  -- | uChar | 1 byte |
     (cond (eqb n 3) (2 * 8)  -- | Short | 1 byte |: two bytes
-    (cond (eqb n 4) (2 * 8)  -- | u_short | 2 byte |
+    (cond (eqb n 4) (2 * 8)  -- | uShort | 2 byte |
     (cond (eqb n 5) (4 * 8)  -- | Int | 4 byte |
-    (cond (eqb n 6) (4 * 8)  -- | u_int | 4 byte |
+    (cond (eqb n 6) (4 * 8)  -- | uInt | 4 byte |
     (cond (eqb n 29) (8 * 8)  -- | Int64 | 8 byte |
     (cond (eqb n 7) (4 * 8)  -- | Float | 4 byte |
     (cond (eqb n 8) (8 * 8)  -- | Double | 8 bytes |

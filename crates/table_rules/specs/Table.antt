@@ -21,7 +21,7 @@ use Rattle.bytes_at.specs.Stages.{no_refusal, ◌▷◌, or_no, OthersCarry0}
 abbrev pub whole_of : List ℕ → Cursor
 whole_of s = judged (record { at = 0; end = length s; big = true; refused = 0 }) 65536 (leb (length s) 65536) 4
 
--- the count in Table's header, a u_int, endianness 0 or 1 (else 5), "table type PlainTable"
+-- the count in Table's header, a uInt, endianness 0 or 1 (else 5), "table type PlainTable"
 unfoldable pub table_head_at : List ℕ → Cursor → TableHead
 table_head_at s c = do
   rows ← uint_at s c

@@ -142,11 +142,11 @@ impl DataType {
     {
         match number {
             0 => 1, // | Bool | 1 byte |: a bit
-            2 => 8, // | u_char | 1 byte |
+            2 => 8, // | uChar | 1 byte |
             3 => 16, // | Short | 1 byte |: two bytes
-            4 => 16, // | u_short | 2 byte |
+            4 => 16, // | uShort | 2 byte |
             5 => 32, // | Int | 4 byte |
-            6 => 32, // | u_int | 4 byte |
+            6 => 32, // | uInt | 4 byte |
             29 => 64, // | Int64 | 8 byte |
             7 => 32, // | Float | 4 byte |
             8 => 64, // | Double | 8 bytes |
@@ -176,7 +176,7 @@ impl DataType {
         bytes_at::text_at::same(s, &name)
     }
 
-    // The number of the one type whose name the bytes can be. The fourth letter tells the names apart, and the first u_char
+    // The number of the one type whose name the bytes can be. The fourth letter tells the names apart, and the first uChar
     // from float.
     fn candidate(s: &[u8]) -> usize
         ensures { (i : ℕ) → i < 12 → is_name s.now (nth_row i).name ≡ true → result ≡ (nth_row i).number }

@@ -1,4 +1,3 @@
-use Prim.Native.Nat.{◌-◌}
 use native.Mathlib.Omega.{arith}
 use Rattle.bytes_at.proofs.Cleared.{cleared_start, cleared_again, cleared_end}
 use Rattle.bytes_at.proofs.clear.Goals as goal

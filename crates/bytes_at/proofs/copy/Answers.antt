@@ -1,5 +1,4 @@
 -- `bytes_at::copy` meets its contract. The loop's invariant: i elements are copied.
-use Prim.Native.Nat.{◌-◌}
 use native.Mathlib.Omega.{arith}
 use Rattle.bytes_at.proofs.Copied.{copied_start, copied_again, copied_end}
 use Rattle.bytes_at.proofs.copy.Goals as goal

@@ -1,5 +1,4 @@
 -- `bytes_at::first_zero` meets its contract. The loop's invariant: no byte before i is zero.
-use Prim.Native.Nat.{◌-◌}
 use native.Mathlib.Omega.{arith}
 use borrow.Author.Tests.{eq-eqb, ne_eqb}
 use Rattle.bytes_at.specs.Bytes.{first_zero}

@@ -1,5 +1,4 @@
 -- `incremental_bucket::read_columns` meets its contract. The loop's invariant: after k turns the state is the definition's after k turns.
-use Prim.Native.Nat.{◌-◌}
 use mathlib.Core.Path.{refl, ◌∙◌}
 use native.Mathlib.Omega.{arith}
 use Rattle.bytes_at.proofs.Loops.{after_none, after_more, after_all}

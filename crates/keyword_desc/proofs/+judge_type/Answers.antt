@@ -1,7 +1,6 @@
 -- `keyword_desc::judge_type` meets its contract, the one function of its cycle of calls. The measure is the levels left. The loop's
 -- invariant: the cursor is the definition's after i fields.
 use mathlib.Core.Path.{sym, ◌∙◌}
-use Prim.Native.Nat.{◌-◌}
 use native.Mathlib.Omega.{arith}
 use Rattle.bytes_at.proofs.Loops.{after_none, after_more, after_all}
 use Rattle.bytes_at.proofs.Stepped.{via}

@@ -1,6 +1,6 @@
 -- `keyword_values::is_array_name` meets its contract: its branches are the definition's cases.
 use mathlib.Core.Path.{ap}
-use borrow.Author.Tests.{lt-ltb, le-ltb, not-true, not-false}
+use borrow.Author.Tests.{lt-ltb, le-ltb}
 use lib.Dec.{eqb}
 use Prim.Native.Nat.{ℕ}
 use Rattle.keyword_rules.specs.Values.{is_array_name}

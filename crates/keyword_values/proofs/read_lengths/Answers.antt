@@ -1,7 +1,6 @@
 -- `keyword_values::read_lengths` meets its contract. The loop's invariant: after i turns the product is the definition's after i turns, and at
 -- most 2^32.
 use native.Mathlib.Omega.{arith}
-use Prim.Native.Nat.{◌-◌}
 use borrow.Author.Tests.{ne_eqb}
 use Rattle.bytes_at.proofs.Loops.{after_none, after_more, after_all}
 use Rattle.keyword_rules.specs.Values.{lengths_at}

@@ -1,7 +1,6 @@
 -- `keyword_values::skip_strings` meets its contract. The loop's invariant: the cursor is the definition's after i turns.
 use mathlib.Core.Path.{ap}
 use native.Mathlib.Omega.{arith}
-use Prim.Native.Nat.{◌-◌}
 use Rattle.bytes_at.proofs.Loops.{after_none, after_more, after_all}
 use Rattle.aipsio_rules.specs.declared.Text.{Text}
 use Rattle.aipsio_rules.proofs.Kept.{string_reads, stop}

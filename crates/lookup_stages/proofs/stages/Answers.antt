@@ -1,5 +1,4 @@
 -- `lookup_stages::stages` meets its contract. The loop's invariant: the numbers of the first i columns are taken.
-use Prim.Native.Nat.{◌-◌}
 use native.Mathlib.Omega.{arith}
 use borrow.Author.Rules.{rules}
 use Rattle.table_rules.specs.ColumnDesc.{no_column}

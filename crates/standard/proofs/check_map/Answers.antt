@@ -1,6 +1,5 @@
 -- `standard::check_map` meets its contract: each part of the map's test in its turn. The loop's invariant: the numbers of the first i
 -- sets are taken.
-use Prim.Native.Nat.{◌-◌}
 use mathlib.Core.Path.{refl, sym, ◌∙◌}
 use native.Mathlib.Omega.{arith}
 use borrow.Author.Rules.{rules}

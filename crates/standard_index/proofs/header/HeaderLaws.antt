@@ -1,4 +1,4 @@
--- The numbers of a header that have no range are u_ints.
+-- The numbers of a header that have no range are uInts.
 -- Assumes nothing.
 use mathlib.Core.Path.{◌≡◌, refl}
 use mathlib.Core.List.{List}

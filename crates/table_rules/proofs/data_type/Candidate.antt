@@ -19,7 +19,7 @@ use Rattle.table_rules.proofs.data_type.Cases.{Each, each, passed, none_first}
 use Rattle.table_rules.proofs.data_type.Names.{name_is}
 use Rattle.table_rules.proofs.data_type.Table.{number_of, number_none}
 
--- the fourth letter of each name but Int, which has three; u_char and float share theirs
+-- the fourth letter of each name but Int, which has three; uChar and float share theirs
 abbrev letters : List ℕ
 letters = bytes "larotbpmi6"
 

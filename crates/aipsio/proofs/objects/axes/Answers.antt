@@ -1,6 +1,5 @@
 -- `aipsio::objects::axes` meets its contract. The loop's invariant: after i turns the product is the definition's after i turns.
 use native.Mathlib.Omega.{arith}
-use Prim.Native.Nat.{◌-◌}
 use Rattle.bytes_at.proofs.Loops.{after_none, after_more, after_all}
 use Rattle.aipsio_rules.specs.Object.{axes_at}
 use Rattle.aipsio_rules.proofs.Bounds.{at_most}

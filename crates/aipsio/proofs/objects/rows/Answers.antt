@@ -1,7 +1,6 @@
 -- `aipsio::objects::rows` meets its contract. The loop's invariant: after i turns the cursor is the definition's after i turns.
 use native.Mathlib.Omega.{arith}
 use mathlib.Core.Path.{refl, ◌∙◌}
-use Prim.Native.Nat.{◌-◌}
 use Rattle.bytes_at.proofs.Room.{room_at, no_room_at}
 use Rattle.aipsio_rules.proofs.Bounds.{bytes_some}
 use Rattle.aipsio_rules.proofs.Rows.{row_short, row_negative, row_on, rows_start, rows_more, rows_none, rows_stop, rows_all}

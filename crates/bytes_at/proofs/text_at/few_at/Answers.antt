@@ -1,6 +1,5 @@
 -- `bytes_at::text_at::few_at` meets its contract. The loop's invariant: what is left to compare decides.
 use native.Mathlib.Omega.{arith}
-use Prim.Native.Nat.{◌-◌}
 use Rattle.bytes_at.proofs.Parts.{left_all, left_more, left_not, left_none}
 use Rattle.bytes_at.proofs.text_at.few_at.Goals as goal
 

@@ -1,5 +1,4 @@
 -- `c_numbers::values::write` meets its contract. The loop's invariant: i of the n values are written, and n are as many as `out` holds.
-use Prim.Native.Nat.{◌-◌}
 use mathlib.Core.Path.{◌∙◌}
 use native.Mathlib.Nat.{zero-add}
 use native.Mathlib.Omega.{arith}

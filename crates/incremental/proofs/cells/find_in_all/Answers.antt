@@ -1,5 +1,4 @@
 -- `incremental::cells::find_in_all` meets its contract. The loop's invariant: after i turns the state is the definition's after i turns.
-use Prim.Native.Nat.{◌-◌}
 use native.Mathlib.Omega.{arith}
 use Rattle.bytes_at.proofs.Loops.{after_none, after_more, after_all}
 use Rattle.incremental_rules.specs.Check.{search_of}

@@ -1,5 +1,4 @@
 -- `incremental::columns::gather_cells` meets its contract. The loop's invariant: after k turns the columns are the definition's after k turns.
-use Prim.Native.Nat.{◌-◌}
 use native.Mathlib.Omega.{arith}
 use Rattle.bytes_at.proofs.Loops.{after_none, after_more, after_all}
 use Rattle.table_rules.specs.ColumnDesc.{no_column}

@@ -1,4 +1,4 @@
--- `incremental::header::read_fields` meets its contract: its calls compose as the definition says, and a u_int is below 2^32.
+-- `incremental::header::read_fields` meets its contract: its calls compose as the definition says, and a uInt is below 2^32.
 use mathlib.Core.Path.{refl}
 use Rattle.bytes_at.proofs.Stepped.{via}
 use Rattle.incremental_rules.specs.Header.{fields_at}

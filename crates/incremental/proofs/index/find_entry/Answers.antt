@@ -1,5 +1,4 @@
 -- `incremental::index::find_entry` meets its contract. The loop's invariant: the row's entry is one of those that are left.
-use Prim.Native.Nat.{◌-◌}
 use native.Mathlib.Omega.{arith}
 use Rattle.incremental.proofs.index.Entry.{halving_start, halving_end, halving_down, halving_up}
 use Rattle.incremental.proofs.index.find_entry.Goals as goal

@@ -1,7 +1,6 @@
 -- `keywords::walk::walk` meets its contract, the one function of its cycle of calls. The measure is the levels left. The loop's invariant:
 -- the walk stands where the definition does after i fields.
 use mathlib.Core.Path.{refl, sym, ◌∙◌}
-use Prim.Native.Nat.{◌-◌}
 use native.Mathlib.Omega.{arith}
 use native.Mathlib.Nat.{pos_of_ne-zero}
 use Rattle.bytes_at.proofs.Loops.{after_none, after_more, after_all}

@@ -1,5 +1,4 @@
 -- `lookup_stages::planning::kind_with` meets its contract. The loop's invariant: no manager before i has the number.
-use Prim.Native.Nat.{◌-◌}
 use mathlib.Core.Path.{refl}
 use native.Mathlib.Omega.{arith}
 use borrow.Author.Tests.{eq-eqb, ne_eqb}

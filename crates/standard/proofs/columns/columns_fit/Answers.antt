@@ -1,5 +1,4 @@
 -- `standard::columns::columns_fit` meets its contract. The loop's invariant: the first i columns are placed and counted.
-use Prim.Native.Nat.{◌-◌}
 use native.Mathlib.Omega.{arith}
 use Rattle.standard.proofs.columns.Counting.{counting_start, counting_le, counting_again, counting_end}
 use Rattle.standard.proofs.columns.Placing.{placing_start, placing_again, placing_extents, placing_fit}

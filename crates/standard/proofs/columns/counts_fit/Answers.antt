@@ -1,5 +1,4 @@
 -- `standard::columns::counts_fit` meets its contract. The loop's invariant: the test of the sets that are left is the test of all.
-use Prim.Native.Nat.{◌-◌}
 use native.Mathlib.Omega.{arith}
 use Rattle.standard.proofs.columns.Counting.{comparing_start, comparing_again, comparing_not, comparing_end}
 use Rattle.standard.proofs.columns.counts_fit.Goals as goal

@@ -1,5 +1,4 @@
 -- `standard::extents::all_apart` meets its contract. The loop's invariant: the test of the extents that are left is the test of all.
-use Prim.Native.Nat.{◌-◌}
 use native.Mathlib.Omega.{arith}
 use Rattle.standard.proofs.extents.Testing.{pairing_start, pairing_again, pairing_not, pairing_end}
 use Rattle.standard.proofs.extents.all_apart.Goals as goal

@@ -1,5 +1,4 @@
 -- `standard::extents::one_apart` meets its contract. The loop's invariant: the test of the extents that are left is the test of all.
-use Prim.Native.Nat.{◌-◌}
 use mathlib.Core.Path.{refl}
 use native.Mathlib.Omega.{arith}
 use Rattle.standard.proofs.extents.Testing.{testing_again, testing_not, testing_end}

@@ -1,7 +1,6 @@
 -- `standard::sets::sets_fit` meets its contract. The loop's invariant: the sets that are left decide.
 use mathlib.Core.Path.{refl, sym, ◌∙◌}
 use native.Mathlib.Omega.{arith}
-use Rattle.standard.specs.Sets.{rows_fit}
 use Rattle.standard.proofs.sets.Sets.{fit_none, fit_on, fit_off}
 use Rattle.standard.proofs.sets.sets_fit.Goals as goal
 

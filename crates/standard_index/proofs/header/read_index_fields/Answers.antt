@@ -1,4 +1,4 @@
--- `standard_index::header::read_index_fields` meets its contract: its calls compose as the definition says, and a u_int is below 2^32.
+-- `standard_index::header::read_index_fields` meets its contract: its calls compose as the definition says, and a uInt is below 2^32.
 use mathlib.Core.Path.{refl}
 use Rattle.bytes_at.proofs.Stepped.{via}
 use Rattle.standard_rules.specs.Header.{index_fields_at}

@@ -1,6 +1,5 @@
 -- `standard_index::rows::find_entry` meets its contract. The loop's invariant: the rule, over the entries that are still possible, gives what it
 -- gives over all, and the looks that are left are enough to leave one entry.
-use Prim.Native.Nat.{◌-◌}
 use native.Mathlib.Omega.{arith}
 use Rattle.bytes_at.proofs.Listed.{room_for}
 use Rattle.standard_index.proofs.rows.Halving.{bounded_start, bounded_down, bounded_up, bounded_one, bounded_end}

@@ -1,6 +1,5 @@
 -- `standard_index::text::read_sets` meets its contract. The loop's invariant: after i turns the sets are the definition's after i turns.
 use mathlib.Core.Path.{refl}
-use Prim.Native.Nat.{◌-◌}
 use native.Mathlib.Omega.{arith}
 use Rattle.bytes_at.proofs.Loops.{after_none, after_more, after_all}
 use Rattle.bytes_at.proofs.Stepped.{via}

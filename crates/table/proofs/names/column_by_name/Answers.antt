@@ -1,5 +1,4 @@
 -- `table::names::column_by_name` meets its contract. The loop's invariant: no column before i has the name.
-use Prim.Native.Nat.{◌-◌}
 use mathlib.Core.Path.{sym, ◌∙◌}
 use native.Mathlib.Omega.{arith}
 use Rattle.bytes_at.proofs.Searched.{searched_none, searched_on, searched_here, searched_out}

@@ -1,5 +1,4 @@
 -- `table_column_desc::columns::first_named` meets its contract: the loop's invariant: no name before i is the name given.
-use Prim.Native.Nat.{◌-◌}
 use mathlib.Core.Path.{sym, ◌∙◌}
 use native.Mathlib.Omega.{arith}
 use Rattle.bytes_at.proofs.Searched.{searched_none, searched_on, searched_here, searched_out}

@@ -1,5 +1,4 @@
 -- `table_column_desc::columns::read_columns` meets its contract. The loop's invariant: i columns are filled in.
-use Prim.Native.Nat.{◌-◌}
 use mathlib.Core.Path.{refl}
 use native.Mathlib.Omega.{arith}
 use Rattle.bytes_at.proofs.Stepped.{via}

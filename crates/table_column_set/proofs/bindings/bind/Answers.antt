@@ -1,6 +1,5 @@
 -- `table_column_set::bindings::bind` meets its contract. The loop's invariant: after i turns the list is the definition's after i turns.
 use mathlib.Core.Path.{refl, ap}
-use Prim.Native.Nat.{◌-◌}
 use native.Mathlib.Omega.{arith}
 use lib.ListN.{set}
 use Rattle.bytes_at.proofs.Loops.{after_none, after_more, after_all}

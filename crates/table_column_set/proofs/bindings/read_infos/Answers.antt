@@ -1,6 +1,5 @@
 -- `table_column_set::bindings::read_infos` meets its contract. The loop's invariant: after j turns the state is the definition's after j turns.
 use mathlib.Core.Path.{refl}
-use Prim.Native.Nat.{◌-◌}
 use native.Mathlib.Omega.{arith}
 use Rattle.bytes_at.proofs.Loops.{after_none, after_more, after_all}
 use Rattle.bytes_at.proofs.Stepped.{via}

@@ -1,5 +1,4 @@
 -- `table_column_set::data_managers::first_number` meets its contract. The loop's invariant: none of the first i numbers is the number given.
-use Prim.Native.Nat.{◌-◌}
 use native.Mathlib.Omega.{arith}
 use borrow.Author.Tests.{eq-eqb, ne_eqb}
 use Rattle.bytes_at.proofs.Searched.{searched_none, searched_on, searched_here, searched_out}

@@ -1,7 +1,7 @@
 -- `table_column_set::info::read_owners` meets its contract. The loop's invariant: after i turns the state is the definition's after i turns,
 -- and there is a count for each of 16 managers.
 use mathlib.Core.Path.{refl, ap, ◌∙◌}
-use Prim.Native.Nat.{◌≤◌, ◌-◌}
+use Prim.Native.Nat.{◌≤◌}
 use native.Mathlib.Omega.{arith}
 use lib.ListN.{length, length-set}
 use Rattle.bytes_at.proofs.Loops.{after_none, after_more, after_all}

@@ -1,4 +1,4 @@
--- `table_column_set::info::read_sequence` meets its contract: its calls compose as the definition says, and a u_int is below 2^32.
+-- `table_column_set::info::read_sequence` meets its contract: its calls compose as the definition says, and a uInt is below 2^32.
 use mathlib.Core.Path.{refl}
 use Rattle.bytes_at.proofs.Stepped.{via}
 use Rattle.table_rules.specs.ColumnSet.{sequence_at}
