@@ -16,7 +16,7 @@ use bytes_at::Refusal;
 pub fn left(c: Cursor) -> usize
     ensures { result ≡ left_in c }
 {
-    bytes_at::minus(c.end, c.at)
+    c.end.saturating_sub(c.at)
 }
 
 // Refused with the number, at the field that begins at `from`.
@@ -25,9 +25,8 @@ pub fn refuse(c: Cursor, from: usize, number: usize) -> Cursor
 {
     Cursor {
         at: from,
-        end: c.end,
-        big: c.big,
         refused: number,
+        ..c
     }
 }
 
@@ -39,76 +38,59 @@ pub fn refusal(c: Cursor) -> Refusal
 }
 
 // Past a field of n bytes; 1 where the enclosing object ends before.
+// Fields are chosen here and in `judge`, not whole cursors: of those the gap is copied too, and Description takes 1.6 times as long.
+#[tactic(auto, unfolding(aipsio_rules::specs::Field::skipped))]
 pub fn skip(c: Cursor, n: usize) -> Cursor
     ensures { result ≡ skipped c n }
 {
-    let at = c.at;
-    let end = c.end;
-    let big = c.big;
-    let refused = c.refused;
-    if refused != 0 {
-        return c;
-    }
-    if left(c) < n {
-        return refuse(c, at, 1);
-    }
-    Cursor {
-        at: at + n,
-        end: end,
-        big: big,
-        refused: 0,
-    }
+    let (at, refused) = if c.refused != 0 {
+        (c.at, c.refused)
+    } else if left(c) < n {
+        (c.at, 1)
+    } else {
+        (c.at + n, 0)
+    };
+    Cursor { at, refused, ..c }
 }
 
 // Past n fields of `size` bytes each; 1 at the first that the enclosing object has no room for.
+#[tactic(auto, unfolding(aipsio_rules::specs::Field::skipped_each))]
 pub fn skip_each(c: Cursor, n: usize, size: usize) -> Cursor
     requires { 0 < size }
     ensures { result ≡ skipped_each c n size }
 {
-    let at = c.at;
-    let end = c.end;
-    let big = c.big;
-    let refused = c.refused;
-    if refused != 0 {
+    if c.refused != 0 {
         return c;
     }
     let room = left(c) / size;
     if room < n {
-        return refuse(c, at + room * size, 1);
+        return refuse(c, c.at + room * size, 1);
     }
     Cursor {
-        at: at + n * size,
-        end: end,
-        big: big,
-        refused: 0,
+        at: c.at + n * size,
+        ..c
     }
 }
 
 // Refused with the number, at the field that begins at `from`, unless the test holds.
+#[tactic(auto, unfolding(aipsio_rules::specs::Field::judged))]
 pub fn judge(c: Cursor, from: usize, ok: bool, number: usize) -> Cursor
     ensures { result ≡ judged c from ok number }
 {
-    let refused = c.refused;
-    if refused != 0 {
-        return c;
-    }
-    if ok {
-        return c;
-    }
-    refuse(c, from, number)
+    let (at, refused) = if c.refused != 0 || ok {
+        (c.at, c.refused)
+    } else {
+        (from, number)
+    };
+    Cursor { at, refused, ..c }
 }
 
 // The number, 0 where the cursor is refused.
+#[tactic(auto, unfolding(aipsio_rules::specs::Field::settled))]
 pub fn settle(value: usize, c: Cursor) -> Value
     ensures value { result ≡ settled value c }
     ensures bounded { result.value ≤ value }
 {
-    let refused = c.refused;
-    if refused != 0 {
-        return Value { value: 0, next: c };
-    }
-    Value {
-        value: value,
-        next: c,
-    }
+    let value = if c.refused == 0 { value } else { 0 };
+    Value { value, next: c }
 }

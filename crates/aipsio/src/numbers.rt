@@ -10,28 +10,9 @@ use bytes_at::Width;
 pub fn sized(s: &[u8], c: Cursor, width: Width) -> Value
     ensures { result ≡ sized_at s.now c (bytes_of width) }
 {
-    let at = c.at;
-    let end = c.end;
-    let big = c.big;
-    let refused = c.refused;
-    if refused != 0 {
-        return Value { value: 0, next: c };
-    }
-    let bytes = width.bytes();
-    if crate::left(c) < bytes {
-        let d = crate::refuse(c, at, 1);
-        return Value { value: 0, next: d };
-    }
-    let v = bytes_at::number(s, at, big, width);
-    Value {
-        value: v,
-        next: Cursor {
-            at: at + bytes,
-            end: end,
-            big: big,
-            refused: 0,
-        },
-    }
+    let v = bytes_at::number(s, c.at, c.big, width);
+    let d = crate::skip(c, width.bytes());
+    crate::settle(v, d)
 }
 
 // A uInt, or an Int as the uInt of the same bytes.
@@ -47,14 +28,9 @@ pub fn ranged(s: &[u8], c: Cursor, width: Width, low: usize, high: usize, refusa
     ensures { result ≡ ranged_at s.now c (bytes_of width) low high refusal }
 {
     let n = sized(s, c, width);
-    let refused = n.next.refused;
-    if refused != 0 {
-        return n;
-    }
-    if bytes_at::within(n.value, low, high) {
-        return n;
-    }
-    crate::settle(n.value, crate::refuse(n.next, c.at, refusal))
+    let ok = low <= n.value && n.value <= high;
+    let d = crate::judge(n.next, c.at, ok, refusal);
+    crate::settle(n.value, d)
 }
 
 // A number of a range, else 4.
@@ -66,6 +42,7 @@ pub fn number(s: &[u8], c: Cursor, width: Width, low: usize, high: usize) -> Val
 }
 
 // A version of a range, else 3.
+// `number`, `version` and `code` are `ranged` under the names by which their refusals are told apart.
 pub fn version(s: &[u8], c: Cursor, low: usize, high: usize) -> Value
     ensures { result ≡ version_at s.now c low high }
 {
@@ -84,16 +61,14 @@ pub fn code(s: &[u8], c: Cursor, low: usize, high: usize) -> Value
 pub fn agree(s: &[u8], c: Cursor, expected: usize) -> Cursor
     ensures { result ≡ agreed s.now c expected }
 {
-    let v = ranged(s, c, Width::Four, expected, expected, 6);
-    v.next
+    ranged(s, c, Width::Four, expected, expected, 6).next
 }
 
 // The mark before an outermost object, else 2.
 pub fn mark(s: &[u8], c: Cursor) -> Cursor
     ensures { result ≡ mark_at s.now c }
 {
-    let v = ranged(s, c, Width::Four, 0xbebebebe, 0xbebebebe, 2);
-    v.next
+    ranged(s, c, Width::Four, 0xbebebebe, 0xbebebebe, 2).next
 }
 
 // A Bool byte, 0 or 1, else 5.

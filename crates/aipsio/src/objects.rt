@@ -1,7 +1,6 @@
 // The objects of AipsIO (Note 260, sections 2 to 2.4): header and end, TableRecord, Block, SimpleOrderedMap and IPosition.
 ghost use Rattle.std.specs.Prelude.{◌≡◌, ◌<◌, ◌≤◌};
 ghost use Rattle.aipsio_rules.specs.Object.{entered, opened, closed, passed, record_at, block_head_at, block_at, rows_at, row_block_at, map_at, iposition_at, axis_into, axes_at, shape_at};
-ghost use Rattle.bytes_at.specs.Joined.{Joins, end_bytes, joined_text};
 ghost use Rattle.bytes_at.specs.Number.{bytes_of};
 
 use aipsio_rules::{Cursor, Value};
@@ -9,54 +8,26 @@ use bytes_at::Width;
 
 // Into an object of len bytes whose header begins at `outer` and ends at the cursor: 1 where it ends after its container,
 // 7 where it ends before its own header does, both at the header.
+#[tactic(auto, unfolding(aipsio_rules::specs::Object::entered))]
 pub fn enter(c: Cursor, outer: Cursor, len: usize) -> Cursor
     ensures { result ≡ entered c outer len }
 {
-    let at = c.at;
-    let big = c.big;
-    let refused = c.refused;
-    let start = outer.at;
-    if refused != 0 {
+    if c.refused != 0 {
         return c;
     }
     if crate::left(outer) < len {
-        return crate::refuse(c, start, 1);
+        return crate::refuse(c, outer.at, 1);
     }
-    if start + len < at {
-        return crate::refuse(c, start, 7);
+    let end = outer.at + len;
+    if end < c.at {
+        return crate::refuse(c, outer.at, 7);
     }
-    Cursor {
-        at: at,
-        end: start + len,
-        big: big,
-        refused: 0,
-    }
+    Cursor { end, ..c }
 }
 
 // An object's header: its length, its name and its version, one of a range, and then its end against its container's.
-// Gives the version, and the cursor at the object's first field. The name has n bytes, 4 to 16, and goes as two numbers: its
-// first eight bytes and its last eight, or four and four where it has fewer than eight.
-pub fn open(
-    s: &[u8],
-    c: Cursor,
-    n: usize,
-    first: usize,
-    last: usize,
-    low: usize,
-    high: usize,
-) -> Value
-    requires { Joins (end_bytes n) n first last }
-    ensures { result ≡ opened s.now c (joined_text n first last) low high }
-{
-    let len = crate::numbers::uint(s, c);
-    let d = crate::strings::text_name(s, len.next, n, first, last);
-    let v = crate::numbers::version(s, d, low, high);
-    let e = enter(v.next, c, len.value);
-    crate::settle(v.value, e)
-}
-
-// The same, of a name of any length.
-pub fn open_named(s: &[u8], c: Cursor, expected: &[u8], low: usize, high: usize) -> Value
+// Gives the version, and the cursor at the object's first field.
+pub fn open(s: &[u8], c: Cursor, expected: &[u8], low: usize, high: usize) -> Value
     ensures { result ≡ opened s.now c expected.now low high }
 {
     let len = crate::numbers::uint(s, c);
@@ -67,44 +38,34 @@ pub fn open_named(s: &[u8], c: Cursor, expected: &[u8], low: usize, high: usize)
 }
 
 // Out of an object whose last field is read: 7, at its header, where bytes are left over.
+#[tactic(auto, unfolding(aipsio_rules::specs::Object::closed))]
 pub fn close(c: Cursor, outer: Cursor) -> Cursor
     ensures { result ≡ closed c outer }
 {
-    let at = c.at;
-    let end = c.end;
-    let big = c.big;
-    let refused = c.refused;
-    let after = outer.end;
-    if refused != 0 {
+    if c.refused != 0 {
         return c;
     }
-    if at == end {
-        return Cursor {
-            at: at,
-            end: after,
-            big: big,
-            refused: 0,
-        };
+    if c.at != c.end {
+        return crate::refuse(c, outer.at, 7);
     }
-    crate::refuse(c, outer.at, 7)
+    Cursor {
+        end: outer.end,
+        ..c
+    }
 }
 
 // Out of an object whose fields are not looked at.
+#[tactic(auto, unfolding(aipsio_rules::specs::Object::passed))]
 pub fn pass(c: Cursor, outer: Cursor) -> Cursor
     ensures { result ≡ passed c outer }
 {
-    let end = c.end;
-    let big = c.big;
-    let refused = c.refused;
-    let after = outer.end;
-    if refused != 0 {
+    if c.refused != 0 {
         return c;
     }
     Cursor {
-        at: end,
-        end: after,
-        big: big,
-        refused: 0,
+        at: c.end,
+        end: outer.end,
+        ..c
     }
 }
 
@@ -112,8 +73,7 @@ pub fn pass(c: Cursor, outer: Cursor) -> Cursor
 pub fn record(s: &[u8], c: Cursor) -> Cursor
     ensures { result ≡ record_at s.now c }
 {
-    // TableRecord
-    let o = open(s, c, 11, 0x5461626c65526563, 0x6c655265636f7264, 1, 1);
+    let o = open(s, c, b"TableRecord", 1, 1);
     pass(o.next, c)
 }
 
@@ -121,8 +81,7 @@ pub fn record(s: &[u8], c: Cursor) -> Cursor
 fn block_head(s: &[u8], c: Cursor, n: usize) -> Cursor
     ensures { result ≡ block_head_at s.now c n }
 {
-    // Block
-    let o = open(s, c, 5, 0x426c6f63, 0x6c6f636b, 1, 1);
+    let o = open(s, c, b"Block", 1, 1);
     crate::numbers::agree(s, o.next, n)
 }
 
@@ -141,33 +100,25 @@ pub fn block(s: &[u8], c: Cursor, n: usize) -> Value
 fn rows(s: &[u8], c: Cursor, n: usize, width: Width) -> Cursor
     ensures { result ≡ rows_at s.now c n (bytes_of width) }
 {
-    let end = c.end;
-    let big = c.big;
-    let refused = c.refused;
-    if refused != 0 {
+    if c.refused != 0 {
         return c;
     }
     let size = width.bytes();
     let room = crate::left(c) / size;
-    let m = bytes_at::least(n, room);
-    let mut at = c.at;
-    let mut i = 0;
-    while i < m {
-        let v = bytes_at::number(s, at, big, width);
+    let m = n.min(room);
+    for k in 0..m {
+        let at = c.at + k * size;
+        let v = bytes_at::number(s, at, c.big, width);
         if 9223372036854775807 < v {
             return crate::refuse(c, at, 4);
         }
-        at += size;
-        i += 1;
     }
     if m < n {
-        return crate::refuse(c, at, 1);
+        return crate::refuse(c, c.at + m * size, 1);
     }
     Cursor {
-        at: at,
-        end: end,
-        big: big,
-        refused: 0,
+        at: c.at + n * size,
+        ..c
     }
 }
 
@@ -185,8 +136,7 @@ pub fn row_block(s: &[u8], c: Cursor, n: usize, width: Width) -> Value
 pub fn map(s: &[u8], c: Cursor) -> Cursor
     ensures { result ≡ map_at s.now c }
 {
-    // SimpleOrderedMap
-    let o = open(s, c, 16, 0x53696d706c654f72, 0x64657265644d6170, 1, 1);
+    let o = open(s, c, b"SimpleOrderedMap", 1, 1);
     let default = crate::numbers::uint(s, o.next);
     let n = crate::numbers::uint(s, default.next);
     let increment = crate::numbers::uint(s, n.next);
@@ -198,8 +148,7 @@ pub fn map(s: &[u8], c: Cursor) -> Cursor
 pub fn iposition(s: &[u8], c: Cursor) -> Cursor
     ensures { result ≡ iposition_at s.now c }
 {
-    // IPosition
-    let o = open(s, c, 9, 0x49506f736974696f, 0x506f736974696f6e, 1, 2);
+    let o = open(s, c, b"IPosition", 1, 2);
     let n = crate::numbers::uint(s, o.next);
     let width = Width::of_int(o.value == 2);
     let e = crate::skip_each(n.next, n.value, width.bytes());
@@ -224,10 +173,8 @@ fn axes(s: &[u8], c: Cursor, n: usize, width: Width) -> Value
     ensures bounded { result.value ≤ 1048576 }
 {
     let mut product = Value { value: 1, next: c };
-    let mut i = 0;
-    while i < n {
+    for _ in 0..n {
         product = add_axis(s, product, width);
-        i += 1;
     }
     product
 }
@@ -238,8 +185,7 @@ pub fn shape(s: &[u8], c: Cursor, dimensions: usize) -> Value
     ensures value { result ≡ shape_at s.now c dimensions }
     ensures bounded { result.value ≤ 1048576 }
 {
-    // IPosition
-    let o = open(s, c, 9, 0x49506f736974696f, 0x506f736974696f6e, 1, 2);
+    let o = open(s, c, b"IPosition", 1, 2);
     let n = crate::numbers::number(s, o.next, Width::Four, 1, 8);
     let k = crate::judge(n.next, o.next.at, n.value == dimensions, 5);
     let width = Width::of_int(o.value == 2);

@@ -5,15 +5,14 @@ use mathlib.Core.List.{List}
 use Prim.Native.Nat.{ℕ, suc, ◌≤◌, ◌<◌, zero-le}
 use native.Mathlib.Decide.{ℕ_discrete}
 use native.Mathlib.Omega.{arith}
-use Rattle.bytes_at.specs.Number.{uint_of, bytes_of}
+use Rattle.bytes_at.specs.Number.{bytes_of}
 use Rattle.bytes_at.specs.declared.Width.{Width}
 use Rattle.bytes_at.specs.declared.Width.TheVariants.{One, Two, Four, Eight}
 use Rattle.bytes_at.specs.Steps.{◌>>=◌}
-use Rattle.bytes_at.proofs.Numbers.{Bytes, word_below}
 use Rattle.aipsio_rules.specs.declared.Cursor.{Cursor}
 use Rattle.aipsio_rules.specs.declared.Value.{Value}
 use Rattle.aipsio_rules.specs.declared.Text.{Text}
-use Rattle.aipsio_rules.specs.Field.{skipped, settled, uint_at, ranged_at, text_before, string_at}
+use Rattle.aipsio_rules.specs.Field.{settled, ranged_at, text_before, string_at}
 use Rattle.aipsio_rules.proofs.Kept.{Clean, settled_none, text_none}
 use Rattle.aipsio_rules.proofs.Sides.{settle_on, text_on}
 use Rattle.aipsio_rules.proofs.Accepted.{judged_within}
@@ -24,12 +23,6 @@ settled_le v c h = elim (ℕ_discrete c.refused 0) [ yes q ↦ rw (← (settle_o
 
 pub text_le : (c : Cursor) (n : ℕ) {high : ℕ} → (Clean c → n ≤ high) → (text_before c n).len ≤ high
 text_le c n h = elim (ℕ_discrete c.refused 0) [ yes q ↦ rw (← (text_on c q n)) (h q) | no q ↦ rw (text_none c n q) zero-le ]
-
-pub uint_below : (s : List ℕ) (c : Cursor) → Bytes s → (uint_at s c).value < 4294967296
-unfolding uint_at ◌>>=◌
-uint_below s c h =
-    let l = word_below s c.at h c.big in
-    omega (arith, settled_le (uint_of c.big 4 s c.at) (skipped c 4) {high = 4294967295} (λ e. omega arith))
 
 pub ranged_le : (s : List ℕ) (c : Cursor) (width low high n : ℕ) → (ranged_at s c width low high (suc n)).value ≤ high
 unfolding ranged_at ◌>>=◌

@@ -2,11 +2,11 @@
 -- gave.
 -- Assumes nothing.
 use mathlib.Core.Path.{◌≡◌}
-use Prim.Native.Nat.{ℕ, ◌+◌, ◌≤◌, ◌<◌}
+use Prim.Native.Nat.{ℕ, ◌+◌, ◌≤◌}
 use native.Mathlib.Omega.{arith}
-use borrow.Author.Tests.{eq-eqb, ne_eqb, le-leb, lt-leb}
+use borrow.Author.Tests.{eq-eqb, le-leb}
 use Rattle.aipsio_rules.specs.declared.Cursor.{Cursor}
-use Rattle.aipsio_rules.specs.Field.{refused_at, left_in}
+use Rattle.aipsio_rules.specs.Field.{left_in}
 use Rattle.aipsio_rules.proofs.Kept.{Clean}
 use Rattle.aipsio_rules.proofs.Sides.{goes}
 use Rattle.aipsio_rules.specs.Object.{entered, closed, passed}
@@ -16,10 +16,6 @@ module _ (c : Cursor) (h : Clean c) where
   unfolding closed
   close_on outer e = rw (goes c h, eq-eqb c.at c.end e)
 
-  pub close_refused : (outer : Cursor) → (c.at ≡ c.end → ⊥) → refused_at c outer.at 7 ≡ closed c outer
-  unfolding closed
-  close_refused outer e = rw (goes c h, ne_eqb c.at c.end e)
-
   pub pass_on : (outer : Cursor) → record { at = c.end; end = outer.end; big = c.big; refused = 0 } ≡ passed c outer
   unfolding passed
   pass_on outer = rw (goes c h)
@@ -28,11 +24,3 @@ module _ (c : Cursor) (h : Clean c) where
     pub enter_on : len ≤ room → c.at ≤ outer.at + len → record { at = c.at; end = outer.at + len; big = c.big; refused = 0 } ≡ entered c outer len
     unfolding entered
     enter_on l k = rw (goes c h, le-leb len (left_in outer) (omega arith), le-leb c.at (outer.at + len) k)
-
-    pub enter_short : len ≤ room → outer.at + len < c.at → refused_at c outer.at 7 ≡ entered c outer len
-    unfolding entered
-    enter_short l k = rw (goes c h, le-leb len (left_in outer) (omega arith), lt-leb c.at (outer.at + len) k)
-
-    pub enter_far : room < len → refused_at c outer.at 1 ≡ entered c outer len
-    unfolding entered
-    enter_far l = rw (goes c h, lt-leb len (left_in outer) (omega arith))

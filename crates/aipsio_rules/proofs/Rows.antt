@@ -3,7 +3,7 @@
 --     -negative    the number is negative
 --     -on          it is not
 -- Assumes nothing.
-use mathlib.Core.Path.{◌≡◌, refl, sym, ap, ◌∙◌}
+use mathlib.Core.Path.{◌≡◌, refl, ap}
 use mathlib.Core.List.{List}
 use Prim.Native.Nat.{ℕ, ◌+◌, ◌≤◌, ◌<◌, zero-le}
 use native.Mathlib.Omega.{arith}
@@ -16,7 +16,6 @@ use Rattle.aipsio_rules.specs.Field.{most_int64, refused_at, moved_to, left_in, 
 use Rattle.aipsio_rules.specs.Object.{rows_at}
 use Rattle.aipsio_rules.proofs.Kept.{Clean, Refused, ranged_reads}
 use Rattle.aipsio_rules.proofs.Ways.{sized_short, sized_on, ranged_kept, ranged_on, ranged_out}
-use Rattle.aipsio_rules.proofs.ObjectAccepted.{cursor_same}
 
 next_same : {a b : Value} → a ≡ b → a.next ≡ b.next
 next_same e = ap (λ (v : Value). v.next) e
@@ -53,15 +52,12 @@ module _ (s : List ℕ) (width : ℕ) where
     unfolding rows_at
     rows_none n h = after_stop _ c 0 n (after_none _ c) zero-le (row_still c h)
 
-    -- d is the cursor after i turns from the place where c stands
-    module _ (n : ℕ) (h : Clean c) (i : ℕ) {d : Cursor} (v : d ≡ rows_at s (moved_to c c.at) i width) where
-      from_c : d ≡ rows_at s c i width
-      from_c = v ∙ ap (λ (x : Cursor). rows_at s x i width) (sym (cursor_same c refl h))
-
+    -- d is the cursor after i turns
+    module _ (n i : ℕ) {d : Cursor} (v : d ≡ rows_at s c i width) where
       pub rows_stop : {x : Cursor} → i < n → Refused x → x ≡ (row_at s d width).next → x ≡ rows_at s c n width
       unfolding rows_at
-      rows_stop {x} l g q = after_stop _ c (i + 1) n (after_more _ c i from_c q) (omega arith) (row_still x g)
+      rows_stop {x} l g q = after_stop _ c (i + 1) n (after_more _ c i v q) (omega arith) (row_still x g)
 
       pub rows_all : i ≤ n → n ≤ i → d ≡ rows_at s c n width
       unfolding rows_at
-      rows_all a b = after_all _ c i n from_c a b
+      rows_all a b = after_all _ c i n v a b

@@ -9,7 +9,7 @@ use lib.Dec.{eqb, leb, leb→le, le→leb}
 use borrow.Author.Tests.{eq-eqb, ne_eqb, le-leb, lt-leb}
 use Rattle.bytes_at.proofs.Tests.{alike}
 use Rattle.aipsio_rules.specs.declared.Cursor.{Cursor}
-use Rattle.aipsio_rules.specs.Field.{refused_at, moved_to, left_in, skipped, skipped_each, judged, settled, text_before, container_of}
+use Rattle.aipsio_rules.specs.Field.{refused_at, moved_to, left_in, skipped, skipped_each, judged, settled, text_before}
 use Rattle.aipsio_rules.proofs.Kept.{Clean}
 
 module _ (c : Cursor) (h : Clean c) where
@@ -23,10 +23,6 @@ module _ (c : Cursor) (h : Clean c) where
   pub text_on : (n : ℕ) → record { start = c.at - n; len = n; next = c } ≡ text_before c n
   unfolding text_before
   text_on n = rw goes
-
-  pub container_on : (start len : ℕ) → record { at = start; end = c.at; big = c.big; refused = 0 } ≡ container_of (record { start = start; len = len; next = c })
-  unfolding container_of
-  container_on start len = rw goes
 
   pub judge_on : (from : ℕ) (ok : Bool) (n : ℕ) → ok ≡ true → c ≡ judged c from ok n
   unfolding judged
@@ -48,10 +44,6 @@ module _ (c : Cursor) (h : Clean c) where
     pub each_on : (size : ℕ) → n ≤ room / size → moved_to c (c.at + n * size) ≡ skipped_each c n size
     unfolding skipped_each
     each_on size l = rw (goes, le-leb n (left_in c / size) (rw e at l))
-
-    pub each_refused : (size : ℕ) → room / size < n → refused_at c (c.at + room / size * size) 1 ≡ skipped_each c n size
-    unfolding skipped_each
-    each_refused size l = rw (goes, lt-leb n (left_in c / size) (rw e at l), e)
 
 -- An entry of a map whose key or value is not there is missed alike, whether fields of 4 bytes or entries of 8 are counted.
 entries_fit : (n room : ℕ) → leb (2 * n) (room / 4) ≡ leb n (room / 8)

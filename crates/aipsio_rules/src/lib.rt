@@ -4,6 +4,7 @@
 
 // Where the next field begins, where the enclosing object ends, whether the byte order is big endian, and the refusal number: 0
 // while there is none. After a refusal `at` is where the failing field begins, the byte of the refusal.
+// No Result: each read promises to give a refused cursor back as it is (`latched`, specs/Field), so that reads follow without a test.
 #[derive(Clone, Copy)]
 pub struct Cursor {
     pub at: usize,
@@ -13,6 +14,7 @@ pub struct Cursor {
 }
 
 // A number that was read, 0 where the cursor is refused, and the cursor past it.
+// What else is read has its own record with a cursor: a generic one would call it `value` alone, in the definitions too.
 #[derive(Clone, Copy)]
 pub struct Value {
     pub value: usize,

@@ -1,7 +1,7 @@
 -- One bucket of a chain: where it is, what it adds, and each way a chain is wrong there.
 -- Assumes nothing.
 use mathlib.Core.Path.{◌≡◌, refl}
-use mathlib.Core.Bool.{true, false, ◌&&◌}
+use mathlib.Core.Bool.{false, ◌&&◌}
 use mathlib.Core.List.{List, [], ◌∷◌, ◌++◌}
 use Prim.Native.Nat.{ℕ, zero, suc, ◌+◌, ◌-◌, ◌*◌, ◌≤◌, ◌<◌}
 use native.Mathlib.Nat.{mul-le-mul_right, suc-mul, not-suc-le-zero}
@@ -11,7 +11,6 @@ use lib.ListN.{length, take, drop, length-take, length-drop, length-append}
 use lib.Dec.{T, eqb, ltb, ltb→lt}
 use store.Enc.{and_l, and_r}
 use borrow.Author.Tests.{lt-ltb, le-ltb, eq-eqb, ne_eqb}
-use Rattle.bytes_at.specs.Number.{uint_of}
 use Rattle.standard_rules.specs.Header.{bucket_start}
 use Rattle.buckets.specs.Area.{Area}
 use Rattle.standard_rules.specs.Index.{next_of, again_of, no_bucket, links, chain_ok, chain_text, free_ok}
@@ -22,10 +21,16 @@ start_in_lem size nb b len h l = omega (arith, suc-mul b size, mul-le-mul_right 
 
 module _ (f : List ℕ) (size : ℕ) where
   -- the numbers of a chain's buckets, and their text
-  pub links_step : (k b : ℕ) {p next : ℕ} → 0 < k → p ≡ bucket_start size b → next ≡ uint_of true 4 f p → links f size k b ≡ b ∷ links f size (k - 1) next
+  pub links_step : (k b : ℕ) {next : ℕ} → 0 < k → next ≡ next_of f size b → links f size k b ≡ b ∷ links f size (k - 1) next
   unfolding links
-  links_step zero b h ep en = absurd (not-suc-le-zero h)
-  links_step (suc k) b h ep en = rw (sub-one, en, ep)
+  links_step zero b h en = absurd (not-suc-le-zero h)
+  links_step (suc k) b h en = rw (sub-one, en)
+
+  -- after i of n turns
+  pub links_turn : (n i b : ℕ) {next : ℕ} → i < n → next ≡ next_of f size b → links f size (n - i) b ≡ b ∷ links f size (n - (i + 1)) next
+  links_turn n i b {next} h en =
+      let e : n - (i + 1) ≡ n - i - 1 = omega arith in
+      rw e (links_step (n - i) b (omega arith) en)
 
   pub links_end : (k b : ℕ) → k ≤ 0 → links f size k b ≡ []
   unfolding links
@@ -55,10 +60,16 @@ module _ (f : List ℕ) (size nb : ℕ) where
   chain_twice (suc k) b h hb e = rw (lt-ltb b nb hb, ne_eqb _ _ e)
 
   -- the free list, at bucket b
-  pub free_step : (k b : ℕ) {p next : ℕ} → 0 < k → b < nb → p ≡ bucket_start size b → next ≡ uint_of true 4 f p → free_ok f size nb k b ≡ free_ok f size nb (k - 1) next
+  pub free_step : (k b : ℕ) {next : ℕ} → 0 < k → b < nb → next ≡ next_of f size b → free_ok f size nb k b ≡ free_ok f size nb (k - 1) next
   unfolding free_ok
-  free_step zero b h hb ep en = absurd (not-suc-le-zero h)
-  free_step (suc k) b h hb ep en = rw (sub-one, lt-ltb b nb hb, en, ep)
+  free_step zero b h hb en = absurd (not-suc-le-zero h)
+  free_step (suc k) b h hb en = rw (sub-one, lt-ltb b nb hb, en)
+
+  -- after i of n turns
+  pub free_turn : (n i b : ℕ) {next : ℕ} → i < n → b < nb → next ≡ next_of f size b → free_ok f size nb (n - i) b ≡ free_ok f size nb (n - (i + 1)) next
+  free_turn n i b {next} h hb en =
+      let e : n - (i + 1) ≡ n - i - 1 = omega arith in
+      rw e (free_step (n - i) b (omega arith) hb en)
 
   pub free_range : (k b : ℕ) → 0 < k → nb ≤ b → free_ok f size nb k b ≡ false
   unfolding free_ok

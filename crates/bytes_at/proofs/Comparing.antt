@@ -10,6 +10,7 @@ use native.Mathlib.Nat.{zero-add, suc-add}
 use lib.ListN.{length, get_or, take, drop, drop_of_length-le}
 use lib.Seq.{drop-cons}
 use lib.Dec.{eqb}
+use lib.Pointwise.{pointwise}
 use borrow.Author.Tests.{eq-eqb, ne_eqb}
 use Rattle.bytes_at.specs.Bytes.{same_bytes}
 
@@ -17,6 +18,14 @@ pub same_self : (a : List ℕ) → same_bytes a a ≡ true
 unfolding same_bytes
 same_self [] = refl
 same_self (x ∷ xs) = rw (eq-eqb x x refl) (same_self xs)
+
+-- what `==` says of two slices
+pub same_pointwise : (a b : List ℕ) → pointwise eqb a b ≡ same_bytes a b
+unfolding same_bytes
+same_pointwise [] [] = refl
+same_pointwise [] (y ∷ ys) = refl
+same_pointwise (x ∷ xs) [] = refl
+same_pointwise (x ∷ xs) (y ∷ ys) = ap (λ (t : Bool). eqb x y && t) (same_pointwise xs ys)
 
 pub unlike : (a b : List ℕ) → (a ≡ b → ⊥) → same_bytes a b ≡ false
 unfolding same_bytes

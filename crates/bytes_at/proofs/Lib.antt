@@ -1,13 +1,10 @@
 -- Laws that proofs of this crate and of those above it cite.
 pub mod Comparing
-pub mod Eights
 pub mod Parts
 pub mod Numbers
 pub mod Loops
 pub mod Stepped
 pub mod Searched
-pub mod Cleared
-pub mod Copied
 pub mod Stages
 pub mod Past
 pub mod Tests
@@ -16,3 +13,4 @@ pub mod Apart
 pub mod Listed
 pub mod Room
 pub mod Zeros
+pub mod Digits

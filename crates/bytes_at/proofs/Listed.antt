@@ -3,9 +3,8 @@
 use mathlib.Core.Path.{◌≡◌, refl, ap, ◌∙◌}
 use mathlib.Core.Bool.{Bool}
 use mathlib.Core.List.{List}
-use Prim.Native.Nat.{ℕ, zero, suc, ◌+◌, ◌-◌, ◌*◌, ◌≤◌, ◌<◌}
+use Prim.Native.Nat.{ℕ, zero, suc, ◌+◌, ◌*◌, ◌≤◌, ◌<◌}
 use native.Mathlib.Nat.{mul-le-mul_right, suc-mul, add-mul}
-use native.Mathlib.Numerals.{sub-one}
 use native.Mathlib.Omega.{arith}
 use lib.ListN.{length, get_or}
 use Rattle.bytes_at.specs.Number.{uint_of, number_in, numbers_at}
@@ -23,11 +22,6 @@ number_at big w s at (suc n) zero h = let e : at ≡ at + 0 * w = omega arith in
 number_at big w s at (suc n) (suc k) h =
     let e : at + w + k * w ≡ at + suc k * w = omega (arith, suc-mul k w) in
     number_at big w s (at + w) n k (omega arith) ∙ ap (uint_of big w s) e
-
--- n widths are n - 1 and one
-pub one_less : (n w : ℕ) → 0 < n → n * w ≡ (n - 1) * w + w
-one_less zero w h = absurd (omega arith)
-one_less (suc n) w h = rw sub-one (omega (arith, suc-mul n w))
 
 -- n widths from a place on have room for number k
 pub room_for : (at n k w : ℕ) {l : ℕ} → k < n → at + n * w ≤ l → at + (k + 1) * w ≤ l

@@ -7,7 +7,7 @@ use native.Mathlib.Decide.{dec_le}
 use native.Mathlib.Omega.{arith}
 use native.Mathlib.Nat.{div-one, div-div-eq-div-mul, pow-suc}
 use lib.ListN.{length, get_or, take, drop, length-drop}
-use lib.Seq.{drop-cons, drop-drop, get_or-drop}
+use lib.Seq.{drop-cons, drop-drop}
 use mir.Val.{Fits}
 use mir.Syntax.{w8}
 use Rattle.bytes_at.specs.Number.{big_from, little_from, uint_of, big_bytes}
@@ -64,38 +64,20 @@ unfolding uint_of
 no_number true n s at h p = sym (big_short 0 n (drop at s) (simp length-drop (omega arith)))
 no_number false n s at h p = sym (little_short 0 1 n (drop at s) (simp length-drop (omega arith)))
 
+pub no_uint : (big : Bool) (n : ℕ) (s : List ℕ) (at : ℕ) → length s < at + n → 0 ≡ uint_of big n s at
+unfolding uint_of big_from little_from
+no_uint true zero s at h = refl
+no_uint false zero s at h = refl
+no_uint big (suc n) s at h = no_number big (suc n) s at h (omega arith)
+
 -- The widths that the code reads.
 module _ (s : List ℕ) (at : ℕ) where
   at_0 : get_or s (at + 0) 0 ≡ get_or s at 0
   at_0 = let e : at + 0 ≡ at = omega arith in ap (λ (i : ℕ). get_or s i 0) e
 
-  -- byte k of the second half of eight
-  at_4 : (k : ℕ) → get_or s (at + 4 + k) 0 ≡ get_or s (at + (4 + k)) 0
-  at_4 k = let e : at + 4 + k ≡ at + (4 + k) = omega arith in ap (λ (i : ℕ). get_or s i 0) e
-
   pub one : (big : Bool) {a : ℕ} → a ≡ get_or s at 0 → at + 1 ≤ length s → a ≡ uint_of big 1 s at
   one true e h = omega (arith, big_number 1 s at h, at_0)
   one false e h = omega (arith, little_number 1 s at h, at_0)
-
-  pub two_big : {a b : ℕ} → a ≡ get_or s at 0 → b ≡ get_or s (at + 1) 0 → at + 2 ≤ length s → a * 256 + b ≡ uint_of true 2 s at
-  two_big p q h = omega (arith, big_number 2 s at h, at_0)
-
-  pub two_little : {a b : ℕ} → a ≡ get_or s at 0 → b ≡ get_or s (at + 1) 0 → at + 2 ≤ length s → b * 256 + a ≡ uint_of false 2 s at
-  two_little p q h = omega (arith, little_number 2 s at h, at_0)
-
-  pub four_big : {a b c d : ℕ} → a ≡ get_or s at 0 → b ≡ get_or s (at + 1) 0 → c ≡ get_or s (at + 2) 0 → d ≡ get_or s (at + 3) 0 → at + 4 ≤ length s
-      → a * 16777216 + b * 65536 + c * 256 + d ≡ uint_of true 4 s at
-  four_big p q r t h = omega (arith, big_number 4 s at h, at_0)
-
-  pub four_little : {a b c d : ℕ} → a ≡ get_or s at 0 → b ≡ get_or s (at + 1) 0 → c ≡ get_or s (at + 2) 0 → d ≡ get_or s (at + 3) 0 → at + 4 ≤ length s
-      → d * 16777216 + c * 65536 + b * 256 + a ≡ uint_of false 4 s at
-  four_little p q r t h = omega (arith, little_number 4 s at h, at_0)
-
-  pub eight_big : {a b : ℕ} → a ≡ uint_of true 4 s at → b ≡ uint_of true 4 s (at + 4) → at + 8 ≤ length s → a * 4294967296 + b ≡ uint_of true 8 s at
-  eight_big p q h = omega (arith, big_number 8 s at h, big_number 4 s at (omega arith), big_number 4 s (at + 4) (omega arith), at_4 0, at_4 1, at_4 2, at_4 3)
-
-  pub eight_little : {a b : ℕ} → a ≡ uint_of false 4 s at → b ≡ uint_of false 4 s (at + 4) → at + 8 ≤ length s → b * 4294967296 + a ≡ uint_of false 8 s at
-  eight_little p q h = omega (arith, little_number 8 s at h, little_number 4 s at (omega arith), little_number 4 s (at + 4) (omega arith), at_4 0, at_4 1, at_4 2, at_4 3)
 
 -- a list of bytes
 abbrev pub Bytes : List ℕ → Type 0
@@ -117,9 +99,6 @@ bytes_take zero l f i = omega arith
 bytes_take (suc n) [] f i = f i
 bytes_take (suc n) (x ∷ l) f zero = f 0
 bytes_take (suc n) (x ∷ l) f (suc i) = bytes_take n l (λ j. f (suc j)) i
-
-pub part_bytes : (s : List ℕ) (start n : ℕ) → Bytes s → Bytes (take n (drop start s))
-part_bytes s start n f = bytes_take n (drop start s) (λ i. rw get_or-drop (f (start + i)))
 
 pub joined_bytes : (n : ℕ) (l m : List ℕ) → Bytes l → Bytes m → Bytes (take n l ++ m)
 joined_bytes zero l m f g i = g i
@@ -144,9 +123,6 @@ big_part k (suc i) (suc n) (x ∷ l) h = big_part k i n l (omega arith)
 pub part_number : (s : List ℕ) (start n k i : ℕ) {x : ℕ} → x ≡ uint_of true k s (start + i) → i + k ≤ n → x ≡ uint_of true k (take n (drop start s)) i
 unfolding uint_of
 part_number s start n k i e h = e ∙ ap (big_from 0 k) (sym (drop-drop i start s)) ∙ sym (big_part k i n (drop start s) h)
-
-pub part_first : (s : List ℕ) (start n k : ℕ) {x : ℕ} → x ≡ uint_of true k s start → k ≤ n → x ≡ uint_of true k (take n (drop start s)) 0
-part_first s start n k e h = let z : start ≡ start + 0 = omega arith in part_number s start n k 0 (e ∙ ap (uint_of true k s) z) (omega arith)
 
 -- what is read inside a text is read the same where more bytes follow it
 big_more : (a n : ℕ) (l z : List ℕ) → n ≤ length l → big_from a n (l ++ z) ≡ big_from a n l

@@ -4,4 +4,3 @@ pub mod Bytes
 pub mod Lists
 pub mod Steps
 pub mod Stages
-pub mod Joined

@@ -1,16 +1,15 @@
-// Bytes: the numbers that stand in them, their parts, clearing and copying; and refusals, which tell the byte of a fault.
+// Bytes: the numbers that stand in them, and their parts; and refusals, which tell the byte of a fault.
 #![tactic(auto)]
 
-pub mod text_at;
-
-ghost use Rattle.std.specs.Prelude.{◌≡◌, ◌≤◌, ◌<◌, ◌+◌, ◌-◌, min, get_or, length, take, drop, replicate, true, false, ◌&&◌, leb};
-ghost use Rattle.std.proofs.Math.Seq.{paste};
+ghost use Rattle.std.specs.Prelude.{◌≡◌, ◌≤◌, ◌<◌, ◌+◌, ◌^◌, length, take, drop};
 ghost use Rattle.bytes_at.specs.Number.{bytes_of, int_width, uint_of};
 ghost use Rattle.bytes_at.specs.Stages.{blaming};
-ghost use Rattle.bytes_at.specs.Bytes.{first_zero, before_zero};
+ghost use Rattle.bytes_at.specs.Bytes.{first_zero, before_zero, same_bytes};
 
 // Why something is refused: its number (RULES.md 8.1), which is 0 where nothing is, and the byte at which the failing field begins
 // (RULES.md 8.5). Byte 0 is a place too, so the number alone tells whether anything is refused.
+// A number, and no enum: RULES.md 8.1 gives each refusal its own, C is told it, and `OthersCarry0` speaks of it.
+// No Default: that nothing is refused is written out, as `no_refusal` has it.
 #[derive(Clone, Copy)]
 pub struct Refusal {
     pub number: usize,
@@ -28,13 +27,11 @@ pub enum Width {
 
 impl Width {
     // An Int's or a uInt's; an Int64's where wide.
+    // No From: a Bool by itself says nothing of a width, and a call has to say of what (`int_width`).
     pub fn of_int(wide: bool) -> Width
         ensures { result ≡ int_width wide }
     {
-        if wide {
-            return Width::Eight;
-        }
-        Width::Four
+        if wide { Width::Eight } else { Width::Four }
     }
 
     pub fn bytes(self) -> usize
@@ -49,128 +46,36 @@ impl Width {
     }
 }
 
-fn wide(x: u8) -> usize
-    ensures { (result ≡ x) × (result < 256) }
+// The number in N bytes that are there, in either byte order.
+// By index: of such a loop over four or eight bytes the compiler makes one load, and a byte swap.
+pub fn uint_there<const N: usize>(s: &[u8], at: usize, big: bool) -> usize
+    requires { (N ≤ 8) × (at + N ≤ length s.now) }
+    ensures value { result ≡ uint_of big N s.now at }
+    ensures bounded { result < 256 ^ N }
 {
-    x as usize
-}
-
-// The number in the byte at a place; 0 where the bytes end before.
-pub fn byte(s: &[u8], at: usize, big: bool) -> usize
-    ensures value { result ≡ uint_of big 1 s.now at }
-    ensures bounded { result < 256 }
-{
-    if s.len() <= at {
-        return 0;
-    }
-    wide(s[at])
-}
-
-// The number in two bytes; 0 where the bytes end before.
-pub fn short(s: &[u8], at: usize, big: bool) -> usize
-    ensures value { result ≡ uint_of big 2 s.now at }
-    ensures bounded { result < 65536 }
-{
-    if s.len() < 2 {
-        return 0;
-    }
-    if s.len() - 2 < at {
-        return 0;
-    }
-    let a = wide(s[at]);
-    let b = wide(s[at + 1]);
+    let mut n = 0;
     if big {
-        return a * 256 + b;
+        for k in 0..N {
+            n = n * 256 + s[at + k] as usize;
+        }
+    } else {
+        for k in 0..N {
+            n = n * 256 + s[at + N - 1 - k] as usize;
+        }
     }
-    b * 256 + a
+    n
 }
 
-// The number in four bytes that are there, most significant byte first.
-pub fn big_word(s: &[u8], at: usize) -> usize
-    requires { at + 4 ≤ length s.now }
-    ensures value { result ≡ uint_of true 4 s.now at }
-    ensures bounded { result < 4294967296 }
+// The number in N bytes; 0 where the bytes end before. An Int of -1 is 4,294,967,295.
+pub fn uint<const N: usize>(s: &[u8], at: usize, big: bool) -> usize
+    requires { N ≤ 8 }
+    ensures value { result ≡ uint_of big N s.now at }
+    ensures bounded { result < 256 ^ N }
 {
-    let a = wide(s[at]);
-    let b = wide(s[at + 1]);
-    let c = wide(s[at + 2]);
-    let d = wide(s[at + 3]);
-    a * 16777216 + b * 65536 + c * 256 + d
-}
-
-// The same, least significant byte first.
-fn little_word(s: &[u8], at: usize) -> usize
-    requires { at + 4 ≤ length s.now }
-    ensures value { result ≡ uint_of false 4 s.now at }
-    ensures bounded { result < 4294967296 }
-{
-    let a = wide(s[at]);
-    let b = wide(s[at + 1]);
-    let c = wide(s[at + 2]);
-    let d = wide(s[at + 3]);
-    d * 16777216 + c * 65536 + b * 256 + a
-}
-
-// The number in four bytes that are there, in either byte order.
-pub fn word_there(s: &[u8], at: usize, big: bool) -> usize
-    requires { at + 4 ≤ length s.now }
-    ensures value { result ≡ uint_of big 4 s.now at }
-    ensures bounded { result < 4294967296 }
-{
-    if big {
-        return big_word(s, at);
-    }
-    little_word(s, at)
-}
-
-// The number in eight bytes that are there, in either byte order.
-fn long_there(s: &[u8], at: usize, big: bool) -> usize
-    requires { at + 8 ≤ length s.now }
-    ensures { result ≡ uint_of big 8 s.now at }
-{
-    let a = word_there(s, at, big);
-    let b = word_there(s, at + 4, big);
-    if big {
-        return a * 4294967296 + b;
-    }
-    b * 4294967296 + a
-}
-
-// The number in eight bytes that are there, most significant byte first.
-pub fn big_long(s: &[u8], at: usize) -> usize
-    requires { at + 8 ≤ length s.now }
-    ensures { result ≡ uint_of true 8 s.now at }
-{
-    let a = big_word(s, at);
-    let b = big_word(s, at + 4);
-    a * 4294967296 + b
-}
-
-// The number in four bytes; 0 where the bytes end before. An Int of -1 is 4,294,967,295.
-pub fn word(s: &[u8], at: usize, big: bool) -> usize
-    ensures value { result ≡ uint_of big 4 s.now at }
-    ensures bounded { result < 4294967296 }
-{
-    if s.len() < 4 {
+    if s.len() < N || s.len() - N < at {
         return 0;
     }
-    if s.len() - 4 < at {
-        return 0;
-    }
-    word_there(s, at, big)
-}
-
-// The number in eight bytes; 0 where the bytes end before.
-pub fn long(s: &[u8], at: usize, big: bool) -> usize
-    ensures { result ≡ uint_of big 8 s.now at }
-{
-    if s.len() < 8 {
-        return 0;
-    }
-    if s.len() - 8 < at {
-        return 0;
-    }
-    long_there(s, at, big)
+    uint_there::<N>(s, at, big)
 }
 
 // The number in as many bytes as the width says; 0 where the bytes end before.
@@ -178,167 +83,76 @@ pub fn number(s: &[u8], at: usize, big: bool, width: Width) -> usize
     ensures { result ≡ uint_of big (bytes_of width) s.now at }
 {
     match width {
-        Width::One => byte(s, at, big),
-        Width::Two => short(s, at, big),
-        Width::Four => word(s, at, big),
-        Width::Eight => long(s, at, big),
+        Width::One => uint::<1>(s, at, big),
+        Width::Two => uint::<2>(s, at, big),
+        Width::Four => uint::<4>(s, at, big),
+        Width::Eight => uint::<8>(s, at, big),
     }
 }
 
 // The same, of bytes that are there.
+// Of the starts of a bucket alone, so that it is put in place: with a second caller the check of many buckets takes 1.4 times as long.
 pub fn number_there(s: &[u8], at: usize, big: bool, width: Width) -> usize
     requires { at + bytes_of width ≤ length s.now }
     ensures { result ≡ uint_of big (bytes_of width) s.now at }
 {
     match width {
-        Width::One => byte(s, at, big),
-        Width::Two => short(s, at, big),
-        Width::Four => word_there(s, at, big),
-        Width::Eight => long_there(s, at, big),
+        Width::One => uint_there::<1>(s, at, big),
+        Width::Two => uint_there::<2>(s, at, big),
+        Width::Four => uint_there::<4>(s, at, big),
+        Width::Eight => uint_there::<8>(s, at, big),
     }
-}
-
-// The difference, 0 where the second number is the larger one.
-pub fn minus(a: usize, b: usize) -> usize
-    ensures { result ≡ a - b }
-{
-    if b <= a {
-        return a - b;
-    }
-    0
 }
 
 // A refusal with a number, of a field that begins at a place.
 pub fn blame(number: usize, at: usize) -> Refusal
     ensures { result ≡ blaming number at }
 {
-    if within(number, 1, 7) {
-        return Refusal {
-            number: number,
-            byte: at,
-        };
-    }
-    Refusal {
-        number: number,
-        byte: 0,
-    }
-}
-
-// The lesser of two numbers.
-pub fn least(a: usize, b: usize) -> usize
-    ensures value { result ≡ min a b }
-    ensures bounds { (result ≤ a) × (result ≤ b) × (result < a → result ≡ b) }
-{
-    if a < b { a } else { b }
-}
-
-// Whether a number lies in a range.
-pub fn within(x: usize, low: usize, high: usize) -> bool
-    ensures { result ≡ leb low x && leb x high }
-{
-    low <= x && x <= high
-}
-
-// As many of the len bytes from start as there are.
-pub fn part(s: &[u8], start: usize, len: usize) -> &[u8]
-    ensures { result.now ≡ take len (drop start s.now) }
-{
-    if s.len() <= start {
-        return &s[..0];
-    }
-    if s.len() - start < len {
-        return &s[start..];
-    }
-    &s[start..start + len]
+    let byte = if 1 <= number && number <= 7 { at } else { 0 };
+    Refusal { number, byte }
 }
 
 // As many of the len bytes from start as there are, and where they stand: in the block of s, after its first start bytes.
-pub fn part_from(s: &[u8], start: usize, len: usize) -> &[u8]
-    ensures { (result.now ≡ take len (drop start s.now)) × (result.ref_ptr ≡ (s.entry.ref_ptr.0, s.entry.ref_ptr.1 + length (take start s.now))) }
+pub fn part(s: &[u8], start: usize, len: usize) -> &[u8]
+    ensures value { result.now ≡ take len (drop start s.now) }
+    ensures place { result.ref_ptr ≡ (s.entry.ref_ptr.0, s.entry.ref_ptr.1 + length (take start s.now)) }
 {
-    let n = s.len();
-    if n <= start {
-        return &s[n..];
-    }
-    if n - start < len {
-        return &s[start..];
-    }
-    &s[start..start + len]
+    let from = start.min(s.len());
+    let most = len.min(s.len() - from);
+    &s[from..from + most]
 }
 
 // The bytes from start on.
 pub fn rest(s: &[u8], start: usize) -> &[u8]
     ensures { result.now ≡ drop start s.now }
 {
-    if s.len() <= start {
-        return &s[..0];
-    }
-    &s[start..]
+    &s[start.min(s.len())..]
 }
 
 // How many bytes stand before the first zero byte.
 pub fn first_zero(s: &[u8]) -> usize
     ensures { (result ≡ first_zero s.now) × (result ≤ length s.now) }
 {
-    let n = s.len();
-    let mut i = 0;
-    while i < n {
-        if s[i] == 0 {
-            return i;
-        }
-        i += 1;
-    }
-    i
+    s.iter().position(|x| *x == 0).unwrap_or(s.len())
 }
 
 // What stands before the first zero byte, all of it where there is none.
 pub fn before_zero(s: &[u8]) -> &[u8]
     ensures { (result.now ≡ before_zero s.now) × (result.ref_ptr ≡ s.entry.ref_ptr) }
 {
-    let n = first_zero(s);
-    &s[..n]
+    &s[..first_zero(s)]
 }
 
-// Sets every byte to 0.
-pub fn clear(s: &mut [u8])
-    ensures { s.new ≡ replicate (length s.old) 0 }
+// Whether the len bytes from start, or as many of them as there are, are the bytes given.
+pub fn is_at(s: &[u8], start: usize, len: usize, expected: &[u8]) -> bool
+    ensures { result ≡ same_bytes (take len (drop start s.now)) expected.now }
 {
-    let mut i = 0;
-    while i < s.len() {
-        s[i] = 0;
-        i += 1;
-    }
+    part(s, start, len) == expected
 }
 
-// Copies n bytes of src from `from` into dst at `at`.
-pub fn copy(src: &[u8], from: usize, n: usize, dst: &mut [u8], at: usize)
-    requires { (from + n ≤ length src.now) × (at + n ≤ length dst.old) }
-    ensures { dst.new ≡ paste dst.old at (drop from src.now) n }
+// Whether two slices hold the same bytes: `==`, in the definitions' word.
+pub fn same(a: &[u8], b: &[u8]) -> bool
+    ensures { result ≡ same_bytes a.now b.now }
 {
-    let mut i = 0;
-    while i < n {
-        dst[at + i] = src[from + i];
-        i += 1;
-    }
-}
-
-// Whether two tests both pass.
-pub fn both(a: bool, b: bool) -> bool
-    ensures { result ≡ a && b }
-{
-    if a {
-        return b;
-    }
-    false
-}
-
-// The number at a place of a list, 0 past its end.
-pub fn number_at(list: &[usize; 16], k: usize) -> usize
-    ensures { result ≡ get_or list.now k 0 }
-{
-    let all = &list[..];
-    if k < all.len() {
-        return all[k];
-    }
-    0
+    a == b
 }

@@ -2,7 +2,8 @@
 // writes the numbers of its answer into `out`, as many as it holds. So an answer can become longer, and a program that lends the
 // shorter `out` of an earlier version gets what it got then. Where it is refused they are zeros, but for the byte of the refusal, the
 // last of them today. A plan of fewer than nine numbers gives 255, and nothing is written, the room included. `hv_element_bits` alone
-// can not be refused: it has no `out`, and gives the bits.
+// can not be refused: it has no `out`, and gives the bits. Functions of one shape stay, each with its exported name and its contract; what they
+// share is `answer_place`, `answer_view` and `tell`.
 #![tactic(auto)]
 
 ghost use Rattle.std.specs.Prelude.{◌≡◌, length};
@@ -13,8 +14,17 @@ ghost use Rattle.lookup_rules.specs.Questions.{answer_of, room_after};
 ghost use Rattle.lookup_rules.specs.Views.{padded_of, view_of, view_by};
 ghost use Rattle.c_numbers.specs.Numbers.{check_numbers, plan_numbers, place_numbers, view_numbers, in_bucket_numbers, plan_from};
 
+use bytes_at::Refusal;
 use lookup_rules::{Asked, Question};
 use table_rules::data_type::DataType;
+
+// The numbers of an answer, and the number of its refusal.
+fn tell(values: &[u64], why: Refusal, out: &mut [u64]) -> u64
+    ensures { (result ≡ why.number) × (out.new ≡ written values.now out.old) }
+{
+    c_numbers::values::write(values, out);
+    why.number as u64
+}
 
 // Row count, byte order (1: big endian), number of columns, number of managers, byte: 5 numbers.
 #[unsafe(no_mangle)]
@@ -22,16 +32,14 @@ pub extern "C" fn hv_description(table: &[u8], out: &mut [u64]) -> u64
     ensures { (result ≡ (described_as table.now).refused.number) × (out.new ≡ written (summary_of (described_as table.now)) out.old) }
 {
     let d = table::describe(table);
-    let big = c_numbers::flag(d.big);
     let values = [
         d.rows as u64,
-        big,
+        u64::from(d.big),
         d.column_count as u64,
         d.manager_count as u64,
         d.refused.byte as u64,
     ];
-    c_numbers::values::write(&values, out);
-    d.refused.number as u64
+    tell(&values, d.refused, out)
 }
 
 // A column, 12 numbers: where its name begins in table.dat and how long it is, data type number, 1 for an array, options,
@@ -42,14 +50,13 @@ pub extern "C" fn hv_column(table: &[u8], position: u64, out: &mut [u64]) -> u64
 {
     let d = table::describe(table);
     let count = d.column_count;
-    let columns = d.columns;
-    let bindings = d.bindings;
-    let c = c_numbers::values::pick_column(columns, count, position);
-    let b = c_numbers::values::pick_binding(bindings, count, position);
+    let no_column = table_column_desc::columns::no_column();
+    let c = c_numbers::values::pick(&d.columns, count, position, no_column);
+    let no_binding = table_column_set::bindings::no_binding();
+    let b = c_numbers::values::pick(&d.bindings, count, position, no_binding);
     let why = c_numbers::values::refusal(d.refused, position, count);
     let values = c_numbers::of_column(c, b, why);
-    c_numbers::values::write(&values, out);
-    why.number as u64
+    tell(&values, why, out)
 }
 
 // A manager, 5 numbers: sequence number, kind (1 StandardStMan, 2 IncrementalStMan, 0 any other), where its name begins in
@@ -60,12 +67,11 @@ pub extern "C" fn hv_manager(table: &[u8], index: u64, out: &mut [u64]) -> u64
 {
     let d = table::describe(table);
     let count = d.manager_count;
-    let managers = d.managers;
-    let m = c_numbers::values::pick_manager(managers, count, index);
+    let no_manager = table_column_set::data_managers::no_manager();
+    let m = c_numbers::values::pick(&d.managers, count, index, no_manager);
     let why = c_numbers::values::refusal(d.refused, index, count);
     let values = c_numbers::of_manager(m, why);
-    c_numbers::values::write(&values, out);
-    why.number as u64
+    tell(&values, why, out)
 }
 
 // The position of the column with a name, and the byte: 2 numbers. No such column: 8.
@@ -76,9 +82,7 @@ pub extern "C" fn hv_column_by_name(table: &[u8], name: &[u8], out: &mut [u64]) 
     let p = table::names::column_by_name(table, name);
     let why = c_numbers::values::position_refusal(p);
     let position = c_numbers::values::position_number(p);
-    let values = [position, why.byte as u64];
-    c_numbers::values::write(&values, out);
-    why.number as u64
+    tell(&[position, why.byte as u64], why, out)
 }
 
 // File check, 2 numbers: the file's bucket size, and the byte.
@@ -94,8 +98,7 @@ pub extern "C" fn hv_check(
 {
     let a = lookup::ask::ask(table, file, Question::Check(sequence as usize), room);
     let values = c_numbers::of_check(a);
-    c_numbers::values::write(&values, out);
-    a.refused.number as u64
+    tell(&values, a.refused, out)
 }
 
 // Plan, 10 numbers: its nine in their order, and the byte.
@@ -111,36 +114,42 @@ pub extern "C" fn hv_plan(
 {
     let a = lookup::ask::ask(table, file, Question::Prepare(position as usize), room);
     let values = c_numbers::of_plan(a);
-    c_numbers::values::write(&values, out);
-    a.refused.number as u64
+    tell(&values, a.refused, out)
 }
 
-// A place, of any question that asks for one.
-fn answer_place(table: &[u8], file: &[u8], q: Question, room: &mut [u8], out: &mut [u64]) -> u64
-    ensures { (result ≡ (answer_of table.now file.now q (length room.old)).refused.number) × (out.new ≡ written (place_numbers (answer_of table.now file.now q (length room.old))) out.old) × (room.new ≡ room_after table.now file.now q (length room.old)) }
+// Place of a row, by position or by plan.
+fn answer_place(
+    table: &[u8],
+    file: &[u8],
+    row: u64,
+    asked: Asked,
+    room: &mut [u8],
+    out: &mut [u64],
+) -> u64
+    ensures { (result ≡ (answer_of table.now file.now (Question.Place row asked) (length room.old)).refused.number) × (out.new ≡ written (place_numbers (answer_of table.now file.now (Question.Place row asked) (length room.old))) out.old) × (room.new ≡ room_after table.now file.now (Question.Place row asked) (length room.old)) }
 {
-    let a = lookup::ask::ask(table, file, q, room);
+    let a = lookup::ask::ask(table, file, Question::Place(row as usize, asked), room);
     let values = c_numbers::of_place(a);
-    c_numbers::values::write(&values, out);
-    a.refused.number as u64
+    tell(&values, a.refused, out)
 }
 
-// A view, padded or not: the start and the length of its part of the file, in bytes.
+// View of a row, by position or by plan, padded or not: the start and the length of its part of the file, in bytes.
+// `padded` is which of two questions C asks, and `view_by` takes it: a closure would be chosen by the same test.
 fn answer_view(
     table: &[u8],
     file: &[u8],
-    q: Question,
+    row: u64,
+    asked: Asked,
     padded: bool,
     room: &mut [u8],
     out: &mut [u64],
 ) -> u64
-    ensures { (result ≡ (answer_of table.now file.now q (length room.old)).refused.number) × (out.new ≡ written (view_numbers (answer_of table.now file.now q (length room.old)) (length (view_by padded file.now (answer_of table.now file.now q (length room.old))))) out.old) × (room.new ≡ room_after table.now file.now q (length room.old)) }
+    ensures { (result ≡ (answer_of table.now file.now (Question.View row asked) (length room.old)).refused.number) × (out.new ≡ written (view_numbers (answer_of table.now file.now (Question.View row asked) (length room.old)) (length (view_by padded file.now (answer_of table.now file.now (Question.View row asked) (length room.old))))) out.old) × (room.new ≡ room_after table.now file.now (Question.View row asked) (length room.old)) }
 {
-    let a = lookup::ask::ask(table, file, q, room);
+    let a = lookup::ask::ask(table, file, Question::View(row as usize, asked), room);
     let part = lookup_question::types::part_of(file, a, padded);
     let values = c_numbers::of_view(a, part.len());
-    c_numbers::values::write(&values, out);
-    a.refused.number as u64
+    tell(&values, a.refused, out)
 }
 
 // Place, of a row and a position: first bit and bit count, the looks of the search and the entries of the column's set, the byte,
@@ -156,16 +165,12 @@ pub extern "C" fn hv_place(
 ) -> u64
     ensures { (result ≡ (answer_of table.now file.now (Question.Place row (Asked.Position position)) (length room.old)).refused.number) × (out.new ≡ written (place_numbers (answer_of table.now file.now (Question.Place row (Asked.Position position)) (length room.old))) out.old) × (room.new ≡ room_after table.now file.now (Question.Place row (Asked.Position position)) (length room.old)) }
 {
-    answer_place(
-        table,
-        file,
-        Question::Place(row as usize, Asked::Position(position as usize)),
-        room,
-        out,
-    )
+    let asked = Asked::Position(position as usize);
+    answer_place(table, file, row, asked, room, out)
 }
 
 // The same for a prepared plan of nine numbers; 255, and nothing is written, where it has fewer.
+#[tactic(auto, unfolding(c_numbers::specs::Answers::if_nine))]
 #[unsafe(no_mangle)]
 pub extern "C" fn hv_place_planned(
     table: &[u8],
@@ -177,21 +182,15 @@ pub extern "C" fn hv_place_planned(
 ) -> u64
     ensures { (result ≡ if_nine plan.now 255 (answer_of table.now file.now (Question.Place row (Asked.Planned (plan_from plan.now))) (length room.old)).refused.number) × (out.new ≡ if_nine plan.now out.old (written (place_numbers (answer_of table.now file.now (Question.Place row (Asked.Planned (plan_from plan.now))) (length room.old))) out.old)) × (room.new ≡ if_nine plan.now room.old (room_after table.now file.now (Question.Place row (Asked.Planned (plan_from plan.now))) (length room.old))) }
 {
-    if plan.len() < 9 {
+    let Some(p) = c_numbers::plan_if_nine(plan) else {
         return 255;
-    }
-    let p = c_numbers::plan_from(plan);
-    answer_place(
-        table,
-        file,
-        Question::Place(row as usize, Asked::Planned(p)),
-        room,
-        out,
-    )
+    };
+    answer_place(table, file, row, Asked::Planned(p), room, out)
 }
 
 // View, of a row and a position: where its part of the file starts and how long it is, in bytes, and the byte of the refusal, 3
 // numbers. Of a String scalar with a maximum in StandardStMan it is the text, of every other column the whole cell.
+#[tactic(auto, unfolding(lookup_rules::specs::Views::view_by))]
 #[unsafe(no_mangle)]
 pub extern "C" fn hv_view(
     table: &[u8],
@@ -203,11 +202,12 @@ pub extern "C" fn hv_view(
 ) -> u64
     ensures { (result ≡ (answer_of table.now file.now (Question.View row (Asked.Position position)) (length room.old)).refused.number) × (out.new ≡ written (view_numbers (answer_of table.now file.now (Question.View row (Asked.Position position)) (length room.old)) (length (view_of file.now (answer_of table.now file.now (Question.View row (Asked.Position position)) (length room.old))))) out.old) × (room.new ≡ room_after table.now file.now (Question.View row (Asked.Position position)) (length room.old)) }
 {
-    let q = Question::View(row as usize, Asked::Position(position as usize));
-    answer_view(table, file, q, false, room, out)
+    let asked = Asked::Position(position as usize);
+    answer_view(table, file, row, asked, false, room, out)
 }
 
 // The same for a prepared plan of nine numbers; 255, and nothing is written, where it has fewer.
+#[tactic(auto, unfolding(lookup_rules::specs::Views::view_by, c_numbers::specs::Answers::if_nine))]
 #[unsafe(no_mangle)]
 pub extern "C" fn hv_view_planned(
     table: &[u8],
@@ -219,15 +219,14 @@ pub extern "C" fn hv_view_planned(
 ) -> u64
     ensures { (result ≡ if_nine plan.now 255 (answer_of table.now file.now (Question.View row (Asked.Planned (plan_from plan.now))) (length room.old)).refused.number) × (out.new ≡ if_nine plan.now out.old (written (view_numbers (answer_of table.now file.now (Question.View row (Asked.Planned (plan_from plan.now))) (length room.old)) (length (view_of file.now (answer_of table.now file.now (Question.View row (Asked.Planned (plan_from plan.now))) (length room.old))))) out.old)) × (room.new ≡ if_nine plan.now room.old (room_after table.now file.now (Question.View row (Asked.Planned (plan_from plan.now))) (length room.old))) }
 {
-    if plan.len() < 9 {
+    let Some(p) = c_numbers::plan_if_nine(plan) else {
         return 255;
-    }
-    let p = c_numbers::plan_from(plan);
-    let planned = Question::View(row as usize, Asked::Planned(p));
-    answer_view(table, file, planned, false, room, out)
+    };
+    answer_view(table, file, row, Asked::Planned(p), false, room, out)
 }
 
 // Padded view, of a row and a position: the same numbers, of the whole cell in every column.
+#[tactic(auto, unfolding(lookup_rules::specs::Views::view_by))]
 #[unsafe(no_mangle)]
 pub extern "C" fn hv_padded_view(
     table: &[u8],
@@ -240,11 +239,11 @@ pub extern "C" fn hv_padded_view(
     ensures { (result ≡ (answer_of table.now file.now (Question.View row (Asked.Position position)) (length room.old)).refused.number) × (out.new ≡ written (view_numbers (answer_of table.now file.now (Question.View row (Asked.Position position)) (length room.old)) (length (padded_of file.now (answer_of table.now file.now (Question.View row (Asked.Position position)) (length room.old))))) out.old) × (room.new ≡ room_after table.now file.now (Question.View row (Asked.Position position)) (length room.old)) }
 {
     let asked = Asked::Position(position as usize);
-    let q = Question::View(row as usize, asked);
-    answer_view(table, file, q, true, room, out)
+    answer_view(table, file, row, asked, true, room, out)
 }
 
 // The same for a prepared plan of nine numbers; 255, and nothing is written, where it has fewer.
+#[tactic(auto, unfolding(lookup_rules::specs::Views::view_by, c_numbers::specs::Answers::if_nine))]
 #[unsafe(no_mangle)]
 pub extern "C" fn hv_padded_view_planned(
     table: &[u8],
@@ -256,13 +255,10 @@ pub extern "C" fn hv_padded_view_planned(
 ) -> u64
     ensures { (result ≡ if_nine plan.now 255 (answer_of table.now file.now (Question.View row (Asked.Planned (plan_from plan.now))) (length room.old)).refused.number) × (out.new ≡ if_nine plan.now out.old (written (view_numbers (answer_of table.now file.now (Question.View row (Asked.Planned (plan_from plan.now))) (length room.old)) (length (padded_of file.now (answer_of table.now file.now (Question.View row (Asked.Planned (plan_from plan.now))) (length room.old))))) out.old)) × (room.new ≡ if_nine plan.now room.old (room_after table.now file.now (Question.View row (Asked.Planned (plan_from plan.now))) (length room.old))) }
 {
-    if plan.len() < 9 {
+    let Some(p) = c_numbers::plan_if_nine(plan) else {
         return 255;
-    }
-    let p = c_numbers::plan_from(plan);
-    let asked = Asked::Planned(p);
-    let planned = Question::View(row as usize, asked);
-    answer_view(table, file, planned, true, room, out)
+    };
+    answer_view(table, file, row, Asked::Planned(p), true, room, out)
 }
 
 // Place in one bucket, of a row and a position in IncrementalStMan: first bit and bit count, the file's bucket size, the byte, 4 numbers.
@@ -280,8 +276,7 @@ pub extern "C" fn hv_place_in_bucket(
     let q = Question::PlaceInBucket(row as usize, position as usize);
     let a = lookup::ask::ask(table, file, q, room);
     let values = c_numbers::of_place_in_bucket(a);
-    c_numbers::values::write(&values, out);
-    a.refused.number as u64
+    tell(&values, a.refused, out)
 }
 
 // The bits of an element, from the number of a data type; 0 for a String's and for every number that is none of the types.
@@ -289,6 +284,5 @@ pub extern "C" fn hv_place_in_bucket(
 pub extern "C" fn hv_element_bits(number: u64) -> u64
     ensures { result ≡ element_bits number }
 {
-    let bits = DataType::bits_of(number as usize);
-    bits as u64
+    DataType::bits_of(number as usize) as u64
 }

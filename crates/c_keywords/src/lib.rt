@@ -4,63 +4,52 @@
 
 ghost use Rattle.std.specs.Prelude.{◌≡◌};
 ghost use Rattle.c_numbers.specs.Answers.{written};
-ghost use Rattle.keyword_rules.specs.Keywords.{keyword_search};
-ghost use Rattle.c_keywords.specs.KeywordNumbers.{keyword_numbers, field_numbers};
+ghost use Rattle.keyword_rules.specs.Keywords.{keyword_search, refusal_of};
+ghost use Rattle.c_keywords.specs.KeywordNumbers.{keyword_numbers, field_numbers, numbers_of};
 
-use keyword_rules::{Scope, Search, Sought};
-
-// Type number, start and length of the value.
-fn of_keyword(x: Search) -> [u64; 4]
-    ensures { result ≡ keyword_numbers x }
-{
-    [
-        x.found.number as u64,
-        x.found.start as u64,
-        x.found.len as u64,
-        x.refused.byte as u64,
-    ]
-}
+use bytes_at::Refusal;
+use keyword_rules::{Field, Scope, Sought};
 
 // Start and length of the name; type number, start and length of the value.
-fn of_field(x: Search) -> [u64; 6]
+fn of_field(x: Result<Field, Refusal>) -> [u64; 6]
     ensures { result ≡ field_numbers x }
 {
-    [
-        x.found.name as u64,
-        x.found.name_len as u64,
-        x.found.number as u64,
-        x.found.start as u64,
-        x.found.len as u64,
-        x.refused.byte as u64,
-    ]
+    match x {
+        Ok(f) => [
+            f.name as u64,
+            f.name_len as u64,
+            f.number as u64,
+            f.start as u64,
+            f.len as u64,
+            0,
+        ],
+        Err(why) => [0, 0, 0, 0, 0, why.byte as u64],
+    }
 }
 
-// A keyword, of either scope.
-fn answer_keyword(table: &[u8], scope: Scope, path: &[u8], out: &mut [u64]) -> u64
-    ensures { (result ≡ (keyword_search table.now scope path.now Sought.Value).refused.number) × (out.new ≡ written (keyword_numbers (keyword_search table.now scope path.now Sought.Value)) out.old) }
+// A keyword or a field, of either scope.
+fn answer(table: &[u8], scope: Scope, path: &[u8], sought: Sought, out: &mut [u64]) -> u64
+    ensures { (result ≡ (refusal_of (keyword_search table.now scope path.now sought)).number) × (out.new ≡ written (numbers_of sought (keyword_search table.now scope path.now sought)) out.old) }
 {
-    let x = keywords::search(table, scope, path, Sought::Value);
-    let values = of_keyword(x);
-    c_numbers::values::write(&values, out);
-    x.refused.number as u64
-}
-
-// A field, of either scope.
-fn answer_field(table: &[u8], scope: Scope, path: &[u8], number: u64, out: &mut [u64]) -> u64
-    ensures { (result ≡ (keyword_search table.now scope path.now (Sought.Field number)).refused.number) × (out.new ≡ written (field_numbers (keyword_search table.now scope path.now (Sought.Field number))) out.old) }
-{
-    let x = keywords::search(table, scope, path, Sought::Field(number as usize));
-    let values = of_field(x);
-    c_numbers::values::write(&values, out);
-    x.refused.number as u64
+    let x = keywords::search(table, scope, path, sought);
+    let numbers = of_field(x);
+    match sought {
+        // without its name
+        Sought::Value => c_numbers::values::write(&numbers[2..], out),
+        Sought::Field(_) => c_numbers::values::write(&numbers, out),
+    }
+    match x {
+        Ok(_) => 0,
+        Err(why) => why.number as u64,
+    }
 }
 
 // A keyword of the table: type number, start and length of the value, byte: 4 numbers.
 #[unsafe(no_mangle)]
 pub extern "C" fn hv_table_keyword(table: &[u8], path: &[u8], out: &mut [u64]) -> u64
-    ensures { (result ≡ (keyword_search table.now Scope.Table path.now Sought.Value).refused.number) × (out.new ≡ written (keyword_numbers (keyword_search table.now Scope.Table path.now Sought.Value)) out.old) }
+    ensures { (result ≡ (refusal_of (keyword_search table.now Scope.Table path.now Sought.Value)).number) × (out.new ≡ written (keyword_numbers (keyword_search table.now Scope.Table path.now Sought.Value)) out.old) }
 {
-    answer_keyword(table, Scope::Table, path, out)
+    answer(table, Scope::Table, path, Sought::Value, out)
 }
 
 // The same of the column at a position.
@@ -71,17 +60,19 @@ pub extern "C" fn hv_column_keyword(
     path: &[u8],
     out: &mut [u64],
 ) -> u64
-    ensures { (result ≡ (keyword_search table.now (Scope.Column position) path.now Sought.Value).refused.number) × (out.new ≡ written (keyword_numbers (keyword_search table.now (Scope.Column position) path.now Sought.Value)) out.old) }
+    ensures { (result ≡ (refusal_of (keyword_search table.now (Scope.Column position) path.now Sought.Value)).number) × (out.new ≡ written (keyword_numbers (keyword_search table.now (Scope.Column position) path.now Sought.Value)) out.old) }
 {
-    answer_keyword(table, Scope::Column(position as usize), path, out)
+    let scope = Scope::Column(position as usize);
+    answer(table, scope, path, Sought::Value, out)
 }
 
 // The field with a number, of a record of the table: start and length of its name, then the numbers of its keyword: 6 numbers.
 #[unsafe(no_mangle)]
 pub extern "C" fn hv_table_field(table: &[u8], path: &[u8], number: u64, out: &mut [u64]) -> u64
-    ensures { (result ≡ (keyword_search table.now Scope.Table path.now (Sought.Field number)).refused.number) × (out.new ≡ written (field_numbers (keyword_search table.now Scope.Table path.now (Sought.Field number))) out.old) }
+    ensures { (result ≡ (refusal_of (keyword_search table.now Scope.Table path.now (Sought.Field number))).number) × (out.new ≡ written (field_numbers (keyword_search table.now Scope.Table path.now (Sought.Field number))) out.old) }
 {
-    answer_field(table, Scope::Table, path, number, out)
+    let field = Sought::Field(number as usize);
+    answer(table, Scope::Table, path, field, out)
 }
 
 // The same of the column at a position.
@@ -93,7 +84,9 @@ pub extern "C" fn hv_column_field(
     number: u64,
     out: &mut [u64],
 ) -> u64
-    ensures { (result ≡ (keyword_search table.now (Scope.Column position) path.now (Sought.Field number)).refused.number) × (out.new ≡ written (field_numbers (keyword_search table.now (Scope.Column position) path.now (Sought.Field number))) out.old) }
+    ensures { (result ≡ (refusal_of (keyword_search table.now (Scope.Column position) path.now (Sought.Field number))).number) × (out.new ≡ written (field_numbers (keyword_search table.now (Scope.Column position) path.now (Sought.Field number))) out.old) }
 {
-    answer_field(table, Scope::Column(position as usize), path, number, out)
+    let scope = Scope::Column(position as usize);
+    let field = Sought::Field(number as usize);
+    answer(table, scope, path, field, out)
 }

@@ -1,5 +1,5 @@
 -- What the functions for C give and write.
-use Rattle.std.specs.Prelude.{ℕ, List, [], ◌∷◌, ◌++◌, cond, length, get_or, take, drop, ltb}
+use Rattle.std.specs.Prelude.{ℕ, List, [], ◌∷◌, ◌++◌, cond, length, get_or, take, drop, ltb, Result}
 use Rattle.bytes_at.specs.declared.Refusal.{Refusal}
 use Rattle.bytes_at.specs.Stages.{◌▷◌, or_no}
 use Rattle.table_rules.specs.declared.Column.{Column}
@@ -8,7 +8,6 @@ use Rattle.table_rules.specs.declared.Binding.{Binding}
 use Rattle.table_rules.specs.declared.Manager.{Manager}
 use Rattle.table_rules.specs.ColumnSet.{no_manager, no_binding}
 use Rattle.table_rules.specs.declared.Description.{Description}
-use Rattle.table_rules.specs.declared.Position.{Position}
 use Rattle.table_rules.specs.Table.{position_refusal, position_value}
 use Rattle.c_numbers.specs.Numbers.{flag_of, with_byte, one_column, one_manager}
 
@@ -29,14 +28,18 @@ column_refusal d position = missing d.refused position d.column_count
 abbrev pub manager_refusal : Description → ℕ → Refusal
 manager_refusal d index = missing d.refused index d.manager_count
 
-unfoldable pub picked_column : List Column → ℕ → ℕ → Column
-picked_column columns count position = cond (ltb position count) (get_or columns position no_column) no_column
+-- the one at a position below the count; else the one that stands for none
+unfoldable pub picked : {A : Type 0} → List A → ℕ → ℕ → A → A
+picked list count position none = cond (ltb position count) (get_or list position none) none
 
-unfoldable pub picked_binding : List Binding → ℕ → ℕ → Binding
-picked_binding bindings count position = cond (ltb position count) (get_or bindings position no_binding) no_binding
+abbrev pub picked_column : List Column → ℕ → ℕ → Column
+picked_column columns count position = picked columns count position no_column
 
-unfoldable pub picked_manager : List Manager → ℕ → ℕ → Manager
-picked_manager managers count position = cond (ltb position count) (get_or managers position no_manager) no_manager
+abbrev pub picked_binding : List Binding → ℕ → ℕ → Binding
+picked_binding bindings count position = picked bindings count position no_binding
+
+abbrev pub picked_manager : List Manager → ℕ → ℕ → Manager
+picked_manager managers count position = picked managers count position no_manager
 
 abbrev pub column_numbers : Description → ℕ → List ℕ
 column_numbers d position =
@@ -47,7 +50,7 @@ column_numbers d position =
 abbrev pub manager_numbers : Description → ℕ → List ℕ
 manager_numbers d index = with_byte (one_manager (picked_manager d.managers d.manager_count index)) (manager_refusal d index)
 
-abbrev pub position_numbers : Position → List ℕ
+abbrev pub position_numbers : Result ℕ Refusal → List ℕ
 position_numbers p = with_byte (position_value p ∷ []) (position_refusal p)
 
 -- what is given for fewer than nine numbers, and for a plan

@@ -1,8 +1,9 @@
 -- RULES.md 4.17: small keyword sets, and what is asked of them.
-use Rattle.std.specs.Prelude.{◌≡◌, Bool, true, ◌&&◌, List, [], ◌∷◌, ◌++◌, ℕ, eqb}
+use Rattle.std.specs.Prelude.{◌≡◌, Bool, true, false, ◌&&◌, List, [], ◌∷◌, ◌++◌, ℕ, eqb, Result, Ok, Err}
 use Rattle.bytes_at.specs.Bytes.{bytes}
-use Rattle.keyword_rules.specs.declared.Search.{Search}
-use Rattle.keyword_rules.specs.declared.Sought.TheVariants.{Value, Field}
+use Rattle.bytes_at.specs.declared.Refusal.{Refusal}
+use Rattle.keyword_rules.specs.declared.Field.{Field}
+use Rattle.keyword_rules.specs.declared.Sought.TheVariants.{Value, Field as FieldOf}
 use Rattle.keyword_rules.specs.Keywords.{search_at}
 
 -- a String u, a record r that holds an Array a and an Int u, an Int r, and a record e with an empty description, whose value is a
@@ -61,14 +62,17 @@ abbrev pub path : List ℕ → List ℕ
 path [] = []
 path (letter ∷ rest) = 0 ∷ 0 ∷ 0 ∷ 1 ∷ letter ∷ path rest
 
-abbrev gives : Search → ℕ → ℕ → ℕ → Bool
-gives x number start len = eqb x.refused.number 0 && eqb x.found.number number && eqb x.found.start start && eqb x.found.len len
+abbrev gives : Result Field Refusal → ℕ → ℕ → ℕ → Bool
+gives (Ok x) number start len = eqb x.number number && eqb x.start start && eqb x.len len
+gives (Err why) number start len = false
 
-abbrev named : Search → ℕ → ℕ → Bool
-named x name len = eqb x.found.name name && eqb x.found.name_len len
+abbrev named : Result Field Refusal → ℕ → ℕ → Bool
+named (Ok x) name len = eqb x.name name && eqb x.name_len len
+named (Err why) name len = false
 
-abbrev refuses : Search → ℕ → ℕ → Bool
-refuses x number byte = eqb x.refused.number number && eqb x.refused.byte byte
+abbrev refuses : Result Field Refusal → ℕ → ℕ → Bool
+refuses (Ok x) number byte = false
+refuses (Err why) number byte = eqb why.number number && eqb why.byte byte
 
 unfoldable pub keyword_cases : Bool
 keyword_cases =
@@ -81,11 +85,11 @@ keyword_cases =
     && refuses (search_at small_set (path (bytes "uu")) Value 0) 16 0
     && refuses (search_at small_set [] Value 0) 16 0
     && refuses (search_at small_set (path (bytes "u") ++ 0 ∷ []) Value 0) 16 0
-    && gives (search_at small_set [] (Field 2) 0) 5 234 4
-    && named (search_at small_set [] (Field 2) 0) 139 1
-    && gives (search_at small_set (path (bytes "e")) (Field 0) 0) 8 300 8
-    && refuses (search_at small_set (path (bytes "e")) (Field 1) 0) 16 0
-    && refuses (search_at small_set (path (bytes "u")) (Field 0) 0) 16 0
+    && gives (search_at small_set [] (FieldOf 2) 0) 5 234 4
+    && named (search_at small_set [] (FieldOf 2) 0) 139 1
+    && gives (search_at small_set (path (bytes "e")) (FieldOf 0) 0) 8 300 8
+    && refuses (search_at small_set (path (bytes "e")) (FieldOf 1) 0) 16 0
+    && refuses (search_at small_set (path (bytes "u")) (FieldOf 0) 0) 16 0
     && gives (search_at eight_deep (path (bytes "qqqqqqqi")) Value 0) 5 307 4
     && refuses (search_at nine_deep [] Value 0) 15 0
 

@@ -1,13 +1,11 @@
--- What the code knows of what was read: a header, an index, the parts before the buckets, a value that was found.
+-- What the code knows of what was read: a header, an index.
 use Rattle.std.specs.Prelude.{◌≤◌, ◌<◌, ℕ, ◌+◌, ◌*◌, ◌≡◌, Bool, List, length}
 use Rattle.bytes_at.specs.Number.{int_bytes}
 use Rattle.incremental_rules.specs.declared.Header.{Header}
 use Rattle.incremental_rules.specs.declared.Index.{Index}
-use Rattle.incremental_rules.specs.declared.Found.{Found}
 use Rattle.standard_rules.specs.Header.{bucket_start}
 use Rattle.incremental_rules.specs.Index.{bucket_number, IndexAccepted}
 use Rattle.incremental_rules.specs.Header.{header_at}
-use Rattle.incremental.specs.declared.Parts.{Parts}
 
 -- what holds of the numbers of a header; the last where it is not refused
 pub record HeaderBounds (h : Header) : Type 0 where
@@ -32,15 +30,3 @@ BucketsInside big f size x = (i : ℕ) → i < x.count → bucket_start size (bu
 -- the numbers of the index are right
 abbrev pub Numbered : ℕ → Bool → List ℕ → Index → Type 0
 Numbered rows big f x = IndexAccepted rows big f (header_at f big) x
-
--- where a value that was found may lie
-pub record FoundBounds (found : Found) : Type 0 where
-  pub start_most : found.start ≤ 4503599627371008
-  pub offset_most : found.offset ≤ 1048576
-
--- what the parts before the buckets show where none of them is refused
-pub record PartsBounds (rows : ℕ) (big : Bool) (f : List ℕ) (p : Parts) : Type 0 where
-  pub size_most : p.size ≤ 1048576
-  pub inside : IndexInside (length f) p.index
-  pub buckets : BucketsInside big f p.size p.index
-  pub numbers : Numbered rows big f p.index

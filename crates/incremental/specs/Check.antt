@@ -1,37 +1,37 @@
 -- How the code goes through the check of an IncrementalStMan file.
-use Rattle.std.specs.Prelude.{ℕ, Bool, cond, false, List, eqb}
+use Rattle.std.specs.Prelude.{ℕ, Bool, ◌≡◌, ◌≢◌, List, length}
 use Rattle.incremental_rules.specs.declared.Checked.{Checked}
-use Rattle.bytes_at.specs.declared.Refusal.{Refusal}
-use Rattle.bytes_at.specs.Stages.{no_refusal, ◌▷◌, or_at}
-use Rattle.standard_rules.specs.Check.{long_enough}
-use Rattle.incremental_rules.specs.declared.Header.{Header}
+use Rattle.incremental_rules.specs.declared.Cells.{Cells}
+use Rattle.incremental_rules.specs.declared.Found.{Found}
 use Rattle.incremental_rules.specs.declared.Index.{Index}
+use Rattle.bytes_at.specs.declared.Refusal.{Refusal}
+use Rattle.bytes_at.specs.Stages.{no_refusal}
 use Rattle.incremental_rules.specs.Header.{header_at}
 use Rattle.incremental_rules.specs.Index.{index_of}
 use Rattle.incremental_rules.specs.Check.{before_buckets}
-use Rattle.incremental.specs.declared.Parts.{Parts}
 
 -- "A refusal carries its number and zeros", and beside them its byte.
 unfoldable pub refused_file : Refusal → Checked
 refused_file why = record { refused = why; size = 0; first = 0 }
 
--- "header, length", after the refusal so far
-unfoldable pub before_index : Refusal → Header → ℕ → Refusal
-before_index refused h len = refused ▷ h.refused ▷ or_at (long_enough len h.size h.count) 1 len
+-- why stages refuse
+abbrev pub Refused : Refusal → Refusal → Type 0
+Refused why stages = (why ≡ stages) × (why.number ≢ 0)
 
--- no index
-abbrev pub no_index : Index
-no_index = record { count = 0; wide = false; firsts = 0; buckets = 0; refused = no_refusal }
+-- where none of the parts before the buckets is refused: the bucket size, and the index
+pub record PartsRead (rows : ℕ) (big : Bool) (f : List ℕ) (refused : Refusal) (size : ℕ) (x : Index) : Type 0 where
+  pub before : (before_buckets rows big f refused).number ≡ 0
+  pub size_is : size ≡ (header_at f big).size
+  pub index_is : x ≡ index_of f big (header_at f big)
 
--- refused parts: the refusal and zeros
-abbrev pub no_parts : Refusal → Parts
-no_parts why = record { refused = why; size = 0; index = no_index }
+-- columns with these bytes, of which one is asked for
+abbrev pub kept_cells : List ℕ → ℕ → Cells
+kept_cells bytes column = record { bytes = bytes; count = length bytes; column = column }
 
--- what the parts before the buckets tell; zeros and the refusal where one is refused
-unfoldable pub parts_of : ℕ → Bool → List ℕ → Refusal → Parts
-parts_of rows big f refused =
-    let h = header_at f big in
-    let why = before_buckets rows big f refused in
-    cond (eqb why.number 0)
-    (record { refused = no_refusal; size = h.size; index = index_of f big h })
-    (no_parts why)
+-- what was found, where no bucket is refused
+abbrev pub found_at : ℕ → ℕ → Found
+found_at start offset = record { start = start; offset = offset; refused = no_refusal }
+
+-- why the search for a cell is refused
+abbrev pub Refuses : Refusal → Found → Type 0
+Refuses why found = Refused why found.refused

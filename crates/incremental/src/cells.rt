@@ -1,151 +1,98 @@
 // The stage of the buckets, which finds the cell that is asked for: all buckets in index order (RULES.md 6.5), or the row's own alone
 // (6.7).
-ghost use Rattle.std.specs.Prelude.{◌≤◌, ◌+◌, ◌<◌, length, ◌≡◌, cond};
-ghost use Rattle.incremental.specs.Bounds.{IndexInside, FoundBounds, BucketsInside, Numbered};
-ghost use Rattle.standard_rules.specs.Header.{bucket_start};
-ghost use Rattle.incremental_rules.specs.Index.{bucket_number};
-ghost use Rattle.incremental_rules.specs.Check.{bucket_into, search_of};
-ghost use Rattle.incremental_rules.specs.OneBucket.{own_bucket};
+ghost use Rattle.std.specs.Prelude.{◌≤◌};
 
+use crate::parts::Parts;
 use bytes_at::Refusal;
-use incremental_rules::{Cells, Found, Index};
 
-// Entry i of the index, after what was found so far: its bucket, of n columns whose values take so many bytes each. The row's
-// bucket is the last whose first row is not above it.
-fn read_entry(
-    f: &[u8],
-    big: bool,
-    size: usize,
-    x: Index,
-    bytes: &[usize; 64],
-    n: usize,
-    column: usize,
-    row: usize,
-    found: Found,
-    i: usize,
-) -> Found
-    requires size_bound { (size ≤ 1048576) × (n ≤ 64) × (i < x.count) }
-    requires index_inside { IndexInside (length f.now) x }
-    requires size_in_bounds { bucket_start size (bucket_number big f.now x i) + size ≤ length f.now }
-    requires number_value { (found.refused.number ≡ 0) × FoundBounds found }
-    ensures value { result ≡ bucket_into big f.now size x (record { bytes = bytes.entry.now; count = n; column = column }) row found i }
-    ensures bounded { FoundBounds result }
-{
-    let b = bytes_at::word(f, x.buckets + i * 4, big);
-    let first = crate::index::first_row(f, big, x, i);
-    let past = crate::index::first_row(f, big, x, i + 1);
-    let at = 512 + b * size;
-    let rows = bytes_at::minus(past, first);
-    let local = bytes_at::minus(row, first);
-    let one = incremental_bucket::read_bucket(f, at, size, big, rows, local, column, bytes, n);
-    let refused = one.next.refused;
-    if refused != 0 {
-        return Found {
-            start: 0,
-            offset: 0,
-            refused: aipsio::refusal(one.next),
-        };
-    }
-    let start = incremental_bucket::values::choose(first <= row, at, found.start);
-    let offset = incremental_bucket::values::choose(first <= row, one.value, found.offset);
-    Found {
-        start: start,
-        offset: offset,
-        refused: Refusal { number: 0, byte: 0 },
-    }
+// The start of a bucket in the file, and the offset of a value in it; zeros while none is found.
+#[derive(Clone, Copy)]
+pub struct Place {
+    pub start: usize,
+    pub offset: usize,
+    pub ghost start_most: { start ≤ 4503599627371008 },
+    pub ghost offset_most: { offset ≤ 1048576 },
 }
 
-// The buckets in index order, which all lie in the file, up to the first that is refused. Gives the start of the row's bucket, and
-// the offset of the row's value in the column.
-fn find_in_all(f: &[u8], big: bool, size: usize, x: Index, cells: Cells, row: usize) -> Found
-    requires size_bound { (size ≤ 1048576) × (cells.count ≤ 64) }
-    requires index_inside { IndexInside (length f.now) x }
-    requires buckets_inside { BucketsInside big f.now size x }
-    ensures value { result ≡ search_of big f.now size x cells row }
-    ensures bounded { FoundBounds result }
-{
-    let bytes = cells.bytes;
-    let n = x.count;
-    let mut found = Found {
+// The search for a cell: in which file, the bytes of a cell of each column that the file keeps, which of these columns is asked for, and
+// the row.
+#[derive(Clone, Copy)]
+pub struct Search<'f, 'c> {
+    pub parts: Parts<'f>,
+    pub bytes: &'c [usize],
+    pub column: usize,
+    pub row: usize,
+}
+
+impl Place {
+    const NONE: Place = Place {
         start: 0,
         offset: 0,
-        refused: Refusal { number: 0, byte: 0 },
     };
-    let mut i = 0;
-    while i < n {
-        found = read_entry(
+}
+
+impl<'f, 'c> Search<'f, 'c> {
+    ghost use Rattle.std.specs.Prelude.{◌<◌};
+    ghost use Rattle.incremental_rules.specs.Check.{bucket_into, search_of};
+    ghost use Rattle.incremental_rules.specs.OneBucket.{own_bucket};
+    ghost use Rattle.incremental.specs.Check.{found_at, kept_cells};
+    ghost use Rattle.incremental.specs.Found.{Tells};
+
+    // Entry i of the index, after what was found so far: its bucket. The row's bucket is the last whose first row is not above it.
+    fn read_entry(self, i: usize, found: Place) -> Result<Place, Refusal>
+        requires { i < self.parts.entries.index.count }
+        ensures { Tells (bucket_into self.entry.parts.entries.big self.entry.parts.entries.file.now self.entry.parts.size self.entry.parts.entries.index (kept_cells self.entry.bytes.now self.entry.column) self.entry.row (found_at found.start found.offset) i) result }
+    {
+        let entries = self.parts.entries;
+        let f = entries.file;
+        let big = entries.big;
+        let size = self.parts.size;
+        let b = bytes_at::uint::<4>(f, entries.index.buckets + i * 4, big);
+        let at = 512 + b * size;
+        let first = entries.first_row(i);
+        let rows = entries.first_row(i + 1).saturating_sub(first);
+        let local = self.row.saturating_sub(first);
+        let one = incremental_bucket::read_bucket(
             f,
-            big,
+            at,
             size,
-            x,
-            &bytes,
-            cells.count,
-            cells.column,
-            row,
-            found,
-            i,
+            big,
+            rows,
+            local,
+            self.column,
+            self.bytes,
         );
-        if found.refused.number != 0 {
-            return found;
+        if one.next.refused != 0 {
+            return Err(aipsio::refusal(one.next));
         }
-        i += 1;
+        if self.row < first {
+            return Ok(found);
+        }
+        Ok(Place {
+            start: at,
+            offset: one.value,
+        })
     }
-    found
-}
 
-// The row, which is below the row count (9), and then its own bucket.
-fn find_in_own(
-    f: &[u8],
-    big: bool,
-    size: usize,
-    x: Index,
-    cells: Cells,
-    row: usize,
-    rows: usize,
-) -> Found
-    requires size_bound { (size ≤ 1048576) × (cells.count ≤ 64) }
-    requires index_inside { IndexInside (length f.now) x }
-    requires buckets_inside { BucketsInside big f.now size x × Numbered rows big f.now x }
-    ensures value { result ≡ own_bucket rows big f.now size x cells row }
-    ensures bounded { FoundBounds result }
-{
-    if rows <= row {
-        return Found {
-            start: 0,
-            offset: 0,
-            refused: Refusal { number: 9, byte: 0 },
-        };
+    // The buckets in index order, up to the first that is refused.
+    pub fn find_in_all(self) -> Result<Place, Refusal>
+        ensures { Tells (search_of self.entry.parts.entries.big self.entry.parts.entries.file.now self.entry.parts.size self.entry.parts.entries.index (kept_cells self.entry.bytes.now self.entry.column) self.entry.row) result }
+    {
+        let mut found = Place::NONE;
+        for i in 0..self.parts.entries.index.count {
+            found = self.read_entry(i, found)?;
+        }
+        Ok(found)
     }
-    let i = crate::index::find_entry(f, big, x, row, rows);
-    let bytes = cells.bytes;
-    let n = cells.count;
-    let none = Found {
-        start: 0,
-        offset: 0,
-        refused: Refusal { number: 0, byte: 0 },
-    };
-    read_entry(f, big, size, x, &bytes, n, cells.column, row, none, i)
-}
 
-// The stage of the buckets: of the row's own, or of all.
-pub fn find_cell(
-    f: &[u8],
-    big: bool,
-    size: usize,
-    x: Index,
-    cells: Cells,
-    row: usize,
-    rows: usize,
-    own: bool,
-) -> Found
-    requires size_bound { (size ≤ 1048576) × (cells.count ≤ 64) }
-    requires index_inside { IndexInside (length f.now) x }
-    requires buckets_inside { BucketsInside big f.now size x × Numbered rows big f.now x }
-    ensures value { result ≡ cond own (own_bucket rows big f.now size x cells row) (search_of big f.now size x cells row) }
-    ensures bounded { FoundBounds result }
-{
-    if own {
-        return find_in_own(f, big, size, x, cells, row, rows);
+    // The row, which is below the row count (9), and then its own bucket.
+    pub fn find_in_own(self) -> Result<Place, Refusal>
+        ensures { Tells (own_bucket self.entry.parts.rows self.entry.parts.entries.big self.entry.parts.entries.file.now self.entry.parts.size self.entry.parts.entries.index (kept_cells self.entry.bytes.now self.entry.column) self.entry.row) result }
+    {
+        if self.parts.rows <= self.row {
+            return Err(Refusal { number: 9, byte: 0 });
+        }
+        let i = self.parts.entries.find_entry(self.row, self.parts.rows);
+        self.read_entry(i, Place::NONE)
     }
-    find_in_all(f, big, size, x, cells, row)
 }

@@ -12,8 +12,7 @@ fn read_fields(s: &[u8], c: Cursor) -> HeaderFields
     ensures value { result ≡ fields_at s.now c }
     ensures words { (result.free_count < 4294967296) × (result.first_free < 4294967296) }
 {
-    // IncrementalStMan
-    let o = aipsio::objects::open(s, c, 16, 0x496e6372656d656e, 0x74616c53744d616e, 5, 5);
+    let o = aipsio::objects::open(s, c, b"IncrementalStMan", 5, 5);
     let flag = aipsio::numbers::flag(s, o.next);
     let same = buckets::file::same_endian(flag.value, c.big);
     let d = aipsio::judge(flag.next, o.next.at, same, 6);
@@ -23,22 +22,21 @@ fn read_fields(s: &[u8], c: Cursor) -> HeaderFields
     let unique = aipsio::numbers::uint(s, cache.next);
     let free = aipsio::numbers::uint(s, unique.next);
     let first = aipsio::numbers::uint(s, free.next);
-    let next = first.next;
     HeaderFields {
         size: size.value,
         count: count.value,
         free_count: free.value,
         first_free: first.value,
-        next: next,
+        next: first.next,
     }
 }
 
-// The header, or zeros and the refusal where the cursor is refused.
+// The header, or zeros and the refusal where the cursor is refused. The two records of the rules have no struct update in common, and a
+// constant for the zeros would be used once.
 fn answer_header(c: Cursor, h: HeaderFields) -> Header
     ensures { result ≡ headed c h }
 {
-    let refused = c.refused;
-    if refused != 0 {
+    if c.refused != 0 {
         return Header {
             size: 0,
             count: 0,
@@ -66,7 +64,7 @@ pub fn read_header(f: &[u8], big: bool) -> Header
     let start = Cursor {
         at: 0,
         end: room,
-        big: big,
+        big,
         refused: 0,
     };
     let m = aipsio::numbers::mark(f, start);

@@ -7,12 +7,11 @@ use aipsio_rules::Cursor;
 use bytes_at::{Refusal, Width};
 use incremental_rules::Index;
 
-// The index, or zeros and the refusal where the cursor is refused.
+// The index, or zeros and the refusal where the cursor is refused. A constant for the zeros would be used once.
 fn answer_index(c: Cursor, count: usize, wide: bool, firsts: usize, buckets: usize) -> Index
     ensures { result ≡ indexed c count wide firsts buckets }
 {
-    let refused = c.refused;
-    if refused != 0 {
+    if c.refused != 0 {
         return Index {
             count: 0,
             wide: false,
@@ -22,10 +21,10 @@ fn answer_index(c: Cursor, count: usize, wide: bool, firsts: usize, buckets: usi
         };
     }
     Index {
-        count: count,
-        wide: wide,
-        firsts: firsts,
-        buckets: buckets,
+        count,
+        wide,
+        firsts,
+        buckets,
         refused: Refusal { number: 0, byte: 0 },
     }
 }
@@ -37,14 +36,13 @@ pub fn read_index(f: &[u8], big: bool, at: usize) -> Index
     ensures inside { result.refused.number ≡ 0 → IndexInside (length f.now) result }
 {
     let start = Cursor {
-        at: at,
+        at,
         end: f.len(),
-        big: big,
+        big,
         refused: 0,
     };
     let m = aipsio::numbers::mark(f, start);
-    // ISMIndex
-    let o = aipsio::objects::open(f, m, 8, 0x49534d496e646578, 0x49534d496e646578, 1, 2);
+    let o = aipsio::objects::open(f, m, b"ISMIndex", 1, 2);
     let n = aipsio::numbers::uint(f, o.next);
     let wide = o.value == 2;
     let width = Width::of_int(wide);

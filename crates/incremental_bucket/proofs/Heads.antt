@@ -3,7 +3,7 @@
 --     -short    the bucket ends before the number does
 --     -on       the number passes its tests
 -- Assumes nothing.
-use mathlib.Core.Path.{◌≡◌, refl, sym}
+use mathlib.Core.Path.{◌≡◌, refl, sym, ap, ◌∙◌}
 use mathlib.Core.List.{List}
 use Prim.Native.Nat.{ℕ, ◌+◌, ◌≤◌, ◌<◌}
 use native.Mathlib.Omega.{arith}
@@ -19,7 +19,7 @@ use Rattle.aipsio_rules.proofs.Sides.{judge_on, judge_refused}
 use Rattle.incremental_rules.specs.declared.Starts.{Starts}
 use Rattle.incremental_bucket.specs.Values.{refused_value}
 use Rattle.incremental_rules.specs.Bucket.{starts_at, offsets_at, column_part_at}
-use Rattle.incremental_rules.proofs.Turns.{uint_short, uint_on, starts_none, offsets_none}
+use Rattle.incremental_rules.proofs.Turns.{forward, forward_is, uint_short, uint_on, starts_none, offsets_none}
 
 module _ (s : List ℕ) (c : Cursor) where
   module _ (width limit rows row bytes : ℕ) where
@@ -46,10 +46,10 @@ module _ (s : List ℕ) (c : Cursor) where
             column_off (refused_at c c.at 11) n (λ y. omega arith)
             (rw (← (uint_on s c h e l q)) (sym (judge_refused (moved_to c (c.at + 4)) refl c.at (ltb 0 n) 11 (le-ltb 0 n (omega arith)))))
 
-        pub column_on : {st : Starts} {r : Value} → (n ≡ 0 → ⊥) → st ≡ starts_at s (moved_to c (c.at + 4)) width n rows row
+        pub column_on : {st : Starts} {r : Value} → (n ≡ 0 → ⊥) → st ≡ starts_at s (forward c (c.at + 4)) width n rows row
             → r ≡ offsets_at s st.next n limit bytes st.hit → r ≡ column_part_at s c width limit rows row bytes
         unfolding column_part_at
         column_on z p y =
             via _ (uint_on s c h e l q) (
             via _ (judge_on (moved_to c (c.at + 4)) refl c.at (ltb 0 n) 11 (lt-ltb 0 n (omega arith))) (
-            via _ p y))
+            via _ (p ∙ ap (λ (d : Cursor). starts_at s d width n rows row) (forward_is c (c.at + 4) h)) y))

@@ -13,23 +13,29 @@ use aipsio_rules::{Cursor, Value};
 use bytes_at::Width;
 use incremental_rules::BucketHead;
 
+// What the part of each column in a bucket is read by: the width of a start, the length of the data part, how many rows the bucket
+// has, and the local row that is asked for.
+#[derive(Clone, Copy)]
+pub struct InBucket {
+    pub width: Width,
+    pub limit: usize,
+    pub rows: usize,
+    pub row: usize,
+}
+
 // The beginning of a bucket, or zeros where the cursor is refused.
+#[tactic(auto, unfolding(incremental_rules::specs::Bucket::begun))]
 fn begin(c: Cursor, wide: bool, len: usize) -> BucketHead
     ensures { result ≡ begun c wide len }
 {
-    let refused = c.refused;
-    if refused != 0 {
+    if c.refused != 0 {
         return BucketHead {
             wide: false,
             len: 0,
             next: c,
         };
     }
-    BucketHead {
-        wide: wide,
-        len: len,
-        next: c,
-    }
+    BucketHead { wide, len, next: c }
 }
 
 // The index offset x of a bucket of so many bytes, in the low three bytes of its first number: how long its data part is, x - 4,
@@ -39,84 +45,59 @@ fn read_head(s: &[u8], c: Cursor, size: usize) -> BucketHead
 {
     let word = aipsio::numbers::uint(s, c);
     let x = word.value % 16777216;
-    let ok = bytes_at::within(x, 4, size);
+    let ok = (4..=size).contains(&x);
     let d = aipsio::judge(word.next, c.at, ok, 11);
-    let len = bytes_at::minus(x, 4);
+    let len = x.saturating_sub(4);
     let n = aipsio::skip(d, len);
     begin(n, 16777216 <= word.value, len)
 }
 
-// A column's part of the index: the number of its values, their starts, of the width given, their offsets. Gives the offset of the
-// row's value.
-fn read_column(
-    s: &[u8],
-    c: Cursor,
-    width: Width,
-    limit: usize,
-    rows: usize,
-    row: usize,
-    bytes: usize,
-) -> Value
+// A column's part of the index: the number of its values, their starts, their offsets. Gives the offset of the row's value.
+// That the cursor's end lies in the slice stays a clause here, in `read_columns` and in what this calls: each call goes on with the cursor of the one
+// before, so a struct of slice and cursor would be built again for each call, and its proof would need the clause `inside` all the same.
+fn read_column(s: &[u8], c: Cursor, b: InBucket, bytes: usize) -> Value
     requires { c.end ≤ length s.now }
-    ensures value { result ≡ column_part_at s.now c (bytes_of width) limit rows row bytes }
+    ensures value { result ≡ column_part_at s.now c (bytes_of b.width) b.limit b.rows b.row bytes }
     ensures inside { result.next.end ≡ c.end }
 {
-    let at = c.at;
-    let end = c.end;
-    let big = c.big;
-    let refused = c.refused;
-    if refused != 0 {
+    if c.refused != 0 {
         return Value { value: 0, next: c };
     }
     if aipsio::left(c) < 4 {
-        return crate::values::refuse(c, at, 1);
+        return crate::values::refuse(c, c.at, 1);
     }
-    let n = bytes_at::word_there(s, at, big);
+    let n = bytes_at::uint_there::<4>(s, c.at, c.big);
     if n == 0 {
-        return crate::values::refuse(c, at, 11);
+        return crate::values::refuse(c, c.at, 11);
     }
-    let d = Cursor {
-        at: at + 4,
-        end: end,
-        big: big,
-        refused: 0,
-    };
-    let starts = crate::values::read_starts(s, d, width, n, rows, row);
-    crate::offsets::read_offsets(s, starts.next, n, limit, bytes, starts.hit)
+    let d = Cursor { at: c.at + 4, ..c };
+    let starts = crate::values::read_starts(s, d, b, n);
+    crate::offsets::read_offsets(s, starts.next, n, b.limit, bytes, starts.hit)
 }
 
-// The n columns in turn, whose values take so many bytes each. Gives the offset of the row's value in the column.
-fn read_columns(
-    s: &[u8],
-    c: Cursor,
-    width: Width,
-    limit: usize,
-    rows: usize,
-    row: usize,
-    column: usize,
-    bytes: &[usize; 64],
-    n: usize,
-) -> Value
-    requires { (n ≤ 64) × (c.end ≤ length s.now) }
-    ensures { result ≡ column_parts_at s.now c (bytes_of width) limit rows row column bytes.now n }
+// The columns in turn, whose values take so many bytes each. Gives the offset of the row's value in the column.
+fn read_columns(s: &[u8], c: Cursor, b: InBucket, column: usize, bytes: &[usize]) -> Value
+    requires { c.end ≤ length s.now }
+    ensures { result ≡ column_parts_at s.now c (bytes_of b.width) b.limit b.rows b.row column bytes.now (length bytes.now) }
 {
     let mut offset = 0;
     let mut next = c;
-    let mut k = 0;
-    while k < n {
-        let one = read_column(s, next, width, limit, rows, row, bytes[k]);
-        offset = crate::values::choose(k == column, one.value, offset);
+    for (k, n) in bytes.iter().enumerate() {
+        let one = read_column(s, next, b, *n);
+        if k == column {
+            offset = one.value;
+        }
         next = one.next;
-        k += 1;
     }
     Value {
         value: offset,
-        next: next,
+        next,
     }
 }
 
-// The bucket of `size` bytes from a place of the file on, in a table of the endianness given: it has so many rows, and n columns
+// The bucket of `size` bytes from a place of the file on, in a table of the endianness given: it has so many rows, and the columns
 // whose values take so many bytes each. Gives the offset of the value that the local row has in the column.
+// Eight parameters, those of `bucket_at`: the one caller has each from another place, and a struct would be taken apart at once.
 pub fn read_bucket(
     f: &[u8],
     at: usize,
@@ -125,20 +106,24 @@ pub fn read_bucket(
     rows: usize,
     row: usize,
     column: usize,
-    bytes: &[usize; 64],
-    n: usize,
+    bytes: &[usize],
 ) -> Value
-    requires { (n ≤ 64) × (at + size ≤ length f.now) }
-    ensures value { result ≡ bucket_at f.now at size big rows row column bytes.now n }
+    requires { at + size ≤ length f.now }
+    ensures value { result ≡ bucket_at f.now at size big rows row column bytes.now (length bytes.now) }
     ensures bounded { result.value ≤ size }
 {
     let start = Cursor {
-        at: at,
+        at,
         end: at + size,
-        big: big,
+        big,
         refused: 0,
     };
     let head = read_head(f, start, size);
-    let width = Width::of_int(head.wide);
-    read_columns(f, head.next, width, head.len, rows, row, column, bytes, n)
+    let b = InBucket {
+        width: Width::of_int(head.wide),
+        limit: head.len,
+        rows,
+        row,
+    };
+    read_columns(f, head.next, b, column, bytes)
 }

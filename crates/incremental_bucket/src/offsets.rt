@@ -9,10 +9,7 @@ use aipsio_rules::{Cursor, Value};
 fn lies_within(offset: usize, bytes: usize, limit: usize) -> bool
     ensures { result ≡ leb (offset + bytes) limit }
 {
-    if limit < bytes {
-        return false;
-    }
-    offset <= limit - bytes
+    bytes <= limit && offset <= limit - bytes
 }
 
 // The n offsets of a column whose values take so many bytes, up to the first that is refused: gives the one of value `hit`. No
@@ -22,52 +19,28 @@ pub fn read_offsets(s: &[u8], c: Cursor, n: usize, limit: usize, bytes: usize, h
     ensures value { result ≡ offsets_at s.now c n limit bytes hit }
     ensures inside { result.next.end ≡ c.end }
 {
-    let end = c.end;
-    let big = c.big;
-    let refused = c.refused;
-    if refused != 0 {
+    if c.refused != 0 {
         return Value { value: 0, next: c };
     }
-    let room = aipsio::left(c) / 4;
-    let m = bytes_at::least(n, room);
+    let m = n.min(aipsio::left(c) / 4);
+    // `at` goes on beside `i`: behind the loop it is where the refusal and the cursor stand; else its formula would stand twice.
     let mut at = c.at;
     let mut offset = 0;
-    let mut i = 0;
-    while i < m {
-        let v = bytes_at::word_there(s, at, big);
+    for i in 0..m {
+        let v = bytes_at::uint_there::<4>(s, at, c.big);
         if !lies_within(v, bytes, limit) {
-            return Value {
-                value: 0,
-                next: Cursor {
-                    at: at,
-                    end: end,
-                    big: big,
-                    refused: 11,
-                },
-            };
+            return crate::values::refuse(c, at, 11);
         }
-        offset = crate::values::choose(i == hit, v, offset);
+        if i == hit {
+            offset = v;
+        }
         at += 4;
-        i += 1;
     }
     if m < n {
-        return Value {
-            value: 0,
-            next: Cursor {
-                at: at,
-                end: end,
-                big: big,
-                refused: 1,
-            },
-        };
+        return crate::values::refuse(c, at, 1);
     }
     Value {
         value: offset,
-        next: Cursor {
-            at: at,
-            end: end,
-            big: big,
-            refused: 0,
-        },
+        next: Cursor { at, ..c },
     }
 }

@@ -4,6 +4,7 @@ pub mod Last
 pub mod Values
 pub mod Accepted
 pub mod Turns
+pub mod Taken
 pub mod AnyCell
 pub mod Columns
 pub mod Search

@@ -8,11 +8,11 @@
 use mathlib.Core.Path.{◌≡◌, refl, sym, ap, ◌∙◌}
 use mathlib.Core.List.{List}
 use mathlib.Core.Bool.{Bool, true, false, cond}
-use Prim.Native.Nat.{ℕ, ◌+◌, ◌-◌, ◌≤◌, ◌<◌, zero-le}
-use native.Mathlib.Decide.{ℕ_discrete, dec_le}
+use Prim.Native.Nat.{ℕ, ◌+◌, ◌≤◌, ◌<◌, zero-le}
+use native.Mathlib.Decide.{ℕ_discrete}
 use native.Mathlib.Omega.{arith}
 use lib.Dec.{leb, eqb}
-use borrow.Author.Tests.{eq-eqb, ne_eqb, le-leb, lt-leb}
+use borrow.Author.Tests.{eq-eqb, ne_eqb}
 use Rattle.bytes_at.specs.Number.{uint_of}
 use Rattle.bytes_at.specs.Steps.{after}
 use Rattle.bytes_at.proofs.Loops.{after_none, after_more, after_all, after_stop}
@@ -27,17 +27,22 @@ use Rattle.aipsio_rules.proofs.Accepted.{uint_is}
 use Rattle.incremental_rules.specs.declared.Starts.{Starts}
 use Rattle.incremental_rules.specs.Bucket.{begun, start_fits, started, start_into, starts_at, offset_into, offsets_at}
 
--- a sum that is tested without being made
-pub leb_minus : (v b d : ℕ) → b ≤ d → leb v (d - b) ≡ leb (v + b) d
-leb_minus v b d h =
-    elim (dec_le (v + b) d) [
-      | yes g ↦ rw (le-leb v (d - b) (omega arith), le-leb (v + b) d g)
-      | no g ↦ rw (lt-leb v (d - b) (omega arith), lt-leb (v + b) d (omega arith))
-    ]
-
 -- an unrefused cursor, field by field
 pub same : (c : Cursor) → Clean c → record { at = c.at; end = c.end; big = c.big; refused = 0 } ≡ c
 same c h = ap (λ (x : ℕ). record { at = c.at; end = c.end; big = c.big; refused = x }) (sym h)
+
+-- moved on to a place, with whatever refusal there is
+abbrev pub forward : Cursor → ℕ → Cursor
+forward c at = record { at = at; end = c.end; big = c.big; refused = c.refused }
+
+pub forward_is : (c : Cursor) (at : ℕ) → Clean c → forward c at ≡ moved_to c at
+forward_is c at h = ap (λ (x : ℕ). record { at = at; end = c.end; big = c.big; refused = x }) h
+
+abbrev starts_by : ℕ → ℕ → Cursor → Starts
+starts_by last hit c = record { last = last; hit = hit; next = c }
+
+abbrev value_by : ℕ → Cursor → Value
+value_by value c = record { value = value; next = c }
 
 -- ---- a uInt
 module _ (s : List ℕ) (c : Cursor) (h : Clean c) {left : ℕ} (e : left ≡ left_in c) where
@@ -93,14 +98,15 @@ module _ (s : List ℕ) (width rows row : ℕ) where
           started_off _ _ _ (λ y. omega arith)))))
 
       pub start_on : {hit : ℕ} → ok ≡ true → hit ≡ cond (leb v row) i st.hit
-          → record { last = v; hit = hit; next = moved_to st.next (st.next.at + size) } ≡ start_into s width rows row st i
+          → record { last = v; hit = hit; next = forward st.next (st.next.at + size) } ≡ start_into s width rows row st i
       unfolding start_into
-      start_on z p =
+      start_on {hit} z p =
+          ap (starts_by v hit) (forward_is st.next (st.next.at + size) h) ∙ (
           via _ (sized_on s st.next h e w l q) (
           via _ t (
           via _ (judge_on (moved_to st.next (st.next.at + size)) refl st.next.at ok 11 z) (
           via _ p (
-          started_on _ _ _ refl))))
+          started_on _ _ _ refl)))))
 
   starts_still : (c : Cursor) → Refused c → (j : ℕ) → start_into s width rows row (record { last = 0; hit = 0; next = c }) j ≡ record { last = 0; hit = 0; next = c }
   unfolding start_into
@@ -117,19 +123,15 @@ module _ (s : List ℕ) (width rows row : ℕ) where
     unfolding starts_at
     starts_none h = after_stop _ _ 0 n (after_none _ _) zero-le (starts_still c h)
 
-    module _ (h : Clean c) (i : ℕ) {st : Starts}
-        (v : st ≡ after (start_into s width rows row) (record { last = 0; hit = 0; next = record { at = c.at; end = c.end; big = c.big; refused = 0 } }) i) where
-      from_c : st ≡ after (start_into s width rows row) (record { last = 0; hit = 0; next = c }) i
-      from_c = v ∙ ap (λ (x : Cursor). after (start_into s width rows row) (record { last = 0; hit = 0; next = x }) i) (same c h)
-
+    module _ (i : ℕ) {st : Starts} (v : st ≡ after (start_into s width rows row) (record { last = 0; hit = 0; next = c }) i) where
       pub starts_stop : {d : Cursor} → i < n → Refused d → record { last = 0; hit = 0; next = d } ≡ start_into s width rows row st i
           → record { last = 0; hit = 0; next = d } ≡ starts_at s c width n rows row
       unfolding starts_at
-      starts_stop {d} l g q = after_stop _ _ (i + 1) n (after_more _ _ i from_c q) (omega arith) (starts_still d g)
+      starts_stop {d} l g q = after_stop _ _ (i + 1) n (after_more _ _ i v q) (omega arith) (starts_still d g)
 
       pub starts_all : i ≤ n → n ≤ i → st ≡ starts_at s c width n rows row
       unfolding starts_at
-      starts_all a b = after_all _ _ i n from_c a b
+      starts_all a b = after_all _ _ i n v a b
 
 -- ---- offsets
 module _ (s : List ℕ) (limit bytes hit : ℕ) where
@@ -154,14 +156,15 @@ module _ (s : List ℕ) (limit bytes hit : ℕ) where
           sym (settled_none _ _ (λ y. omega arith))))))
 
       pub offset_on : {offset : ℕ} → ok ≡ true → offset ≡ cond (eqb i hit) v st.value
-          → record { value = offset; next = moved_to st.next (st.next.at + 4) } ≡ offset_into s limit bytes hit st i
+          → record { value = offset; next = forward st.next (st.next.at + 4) } ≡ offset_into s limit bytes hit st i
       unfolding offset_into
-      offset_on z p =
+      offset_on {offset} z p =
+          ap (value_by offset) (forward_is st.next (st.next.at + 4) h) ∙ (
           via _ (uint_on s st.next h e l q) (
           via _ t (
           via _ (judge_on (moved_to st.next (st.next.at + 4)) refl st.next.at ok 11 z) (
           via _ p (
-          settle_on _ refl _))))
+          settle_on _ refl _)))))
 
   offsets_still : (c : Cursor) → Refused c → (j : ℕ) → offset_into s limit bytes hit (record { value = 0; next = c }) j ≡ record { value = 0; next = c }
   unfolding offset_into
@@ -178,16 +181,12 @@ module _ (s : List ℕ) (limit bytes hit : ℕ) where
     unfolding offsets_at
     offsets_none h = after_stop _ _ 0 n (after_none _ _) zero-le (offsets_still c h)
 
-    module _ (h : Clean c) (i : ℕ) {st : Value}
-        (v : st ≡ after (offset_into s limit bytes hit) (record { value = 0; next = record { at = c.at; end = c.end; big = c.big; refused = 0 } }) i) where
-      offsets_from_lem : st ≡ after (offset_into s limit bytes hit) (record { value = 0; next = c }) i
-      offsets_from_lem = v ∙ ap (λ (x : Cursor). after (offset_into s limit bytes hit) (record { value = 0; next = x }) i) (same c h)
-
+    module _ (i : ℕ) {st : Value} (v : st ≡ after (offset_into s limit bytes hit) (record { value = 0; next = c }) i) where
       pub offsets_stop : {d : Cursor} → i < n → Refused d → record { value = 0; next = d } ≡ offset_into s limit bytes hit st i
           → record { value = 0; next = d } ≡ offsets_at s c n limit bytes hit
       unfolding offsets_at
-      offsets_stop {d} l g q = after_stop _ _ (i + 1) n (after_more _ _ i offsets_from_lem q) (omega arith) (offsets_still d g)
+      offsets_stop {d} l g q = after_stop _ _ (i + 1) n (after_more _ _ i v q) (omega arith) (offsets_still d g)
 
       pub offsets_all : i ≤ n → n ≤ i → st ≡ offsets_at s c n limit bytes hit
       unfolding offsets_at
-      offsets_all a b = after_all _ _ i n offsets_from_lem a b
+      offsets_all a b = after_all _ _ i n v a b

@@ -7,6 +7,7 @@ use aipsio_rules::Cursor;
 use bytes_at::Refusal;
 
 // The header's fields, and the cursor past them.
+// StandardStMan's `BucketFields` is another record: each manager's definitions give their own, in the note's order of its header.
 #[derive(Clone, Copy)]
 pub struct HeaderFields {
     pub size: usize,
@@ -17,6 +18,7 @@ pub struct HeaderFields {
 }
 
 // The numbers of a header; zeros and the refusal where it is refused.
+// No Err: `headed` has the zeros, and `HeaderBounds` holds of refused headers too.
 #[derive(Clone, Copy)]
 pub struct Header {
     pub size: usize,
@@ -28,6 +30,7 @@ pub struct Header {
 
 // The index of a file: the number of its entries, whether its first rows are Int64, and where in the file its first rows, one more
 // than entries, and its bucket numbers start; zeros and the refusal where it is refused.
+// No Err: `indexed` has the zeros.
 #[derive(Clone, Copy)]
 pub struct Index {
     pub count: usize,
@@ -39,6 +42,7 @@ pub struct Index {
 
 // The columns that a file keeps, in table order: the bytes of a cell of each, 0 for a String, whose offset alone is judged; how
 // many they are; and which of them is asked for, 64 where it is none.
+// A list with its length beside it, and 64 for no column: there is no heap, and `cells_in` (specs/Bucket) has both.
 #[derive(Clone, Copy)]
 pub struct Cells {
     pub bytes: [usize; 64],
@@ -66,6 +70,7 @@ pub struct Starts {
 
 // Where the bucket of the row that is asked for starts, and the offset of the row's value in the column; zeros and the refusal
 // where a bucket is refused.
+// No Err: `search_of` and `own_bucket` have the zeros, and theorems speak of both.
 #[derive(Clone, Copy)]
 pub struct Found {
     pub start: usize,
@@ -75,6 +80,7 @@ pub struct Found {
 
 // What the check of a file tells: the bucket size, and the first bit of the cell that is asked for; zeros and the refusal where
 // it is refused.
+// No Err: `checked_by` has the zeros, and `incremental::check` promises it of every file.
 #[derive(Clone, Copy)]
 pub struct Checked {
     pub refused: Refusal,

@@ -6,16 +6,13 @@ ghost use Rattle.keyword_rules.specs.RecordDesc.{may_hold, field_head_at, is_ipo
 
 use aipsio_rules::Cursor;
 use bytes_at::Width;
-use keyword_rules::FieldHead;
+use keyword_rules::{FieldHead, RECORD, TABLE};
 
 // Whether a field of a type may stand in a record in which records may be held `deeper` levels deep.
 fn may_hold(number: usize, deeper: usize) -> bool
     ensures { result ≡ may_hold number deeper }
 {
-    if number == 25 {
-        return 0 < deeper;
-    }
-    true
+    number != RECORD || 0 < deeper
 }
 
 // Name and type: 5 for a number that is no type, 15 for a record that is deeper than eight.
@@ -42,8 +39,7 @@ fn is_iposition(s: &[u8], c: Cursor) -> bool
     ensures { result ≡ is_iposition s.now c }
 {
     let d = aipsio::skip(c, 4);
-    // IPosition
-    let e = aipsio::strings::text_name(s, d, 9, 0x49506f736974696f, 0x506f736974696f6e);
+    let e = aipsio::strings::name(s, d, b"IPosition");
     e.refused == 0
 }
 
@@ -60,9 +56,10 @@ fn skip_shape(s: &[u8], c: Cursor) -> Cursor
     ensures { result ≡ shape_in_desc_at s.now c }
 {
     if is_iposition(s, c) {
-        return aipsio::objects::iposition(s, c);
+        aipsio::objects::iposition(s, c)
+    } else {
+        skip_counted(s, c)
     }
-    skip_counted(s, c)
 }
 
 // What a type that is no record's asks for: a shape, a TableDesc name, or nothing.
@@ -70,13 +67,12 @@ pub fn skip_specific(s: &[u8], c: Cursor, number: usize) -> Cursor
     ensures { result ≡ specific_at s.now c number }
 {
     if keyword_values::is_array_type(number) {
-        return skip_shape(s, c);
+        skip_shape(s, c)
+    } else if number == TABLE {
+        aipsio::strings::string(s, c, 0, 4096).next
+    } else {
+        c
     }
-    if number == 12 {
-        let t = aipsio::strings::string(s, c, 0, 4096);
-        return t.next;
-    }
-    c
 }
 
 // The comment, which version 2 has.
@@ -84,10 +80,10 @@ pub fn skip_comment(s: &[u8], c: Cursor, version: usize) -> Cursor
     ensures { result ≡ comment_at s.now c version }
 {
     if version == 2 {
-        let t = aipsio::strings::string(s, c, 0, 4096);
-        return t.next;
+        aipsio::strings::string(s, c, 0, 4096).next
+    } else {
+        c
     }
-    c
 }
 
 // What a field's type asks for in a description. For a record that is its own description, whose fields may hold records
@@ -95,27 +91,22 @@ pub fn skip_comment(s: &[u8], c: Cursor, version: usize) -> Cursor
 pub fn judge_type(s: &[u8], c: Cursor, number: usize, deeper: usize) -> Cursor
     ensures { result ≡ type_desc_at deeper s.now c number }
 {
-    if number != 25 {
+    if number != RECORD {
         return skip_specific(s, c, number);
     }
     if deeper == 0 {
         return c;
     }
-    // RecordDesc
-    let o = aipsio::objects::open(s, c, 10, 0x5265636f72644465, 0x636f726444657363, 1, 2);
+    let o = aipsio::objects::open(s, c, b"RecordDesc", 1, 2);
     let n = aipsio::numbers::number(s, o.next, Width::Four, 0, 2147483647);
-    let count = n.value;
     let mut d = n.next;
-    let mut i = 0;
-    while i < count {
-        let refused = d.refused;
-        if refused != 0 {
-            return d;
+    for _i in 0..n.value {
+        if d.refused != 0 {
+            break;
         }
         let f = read_head(s, d, deeper - 1);
         let e = judge_type(s, f.next, f.number, deeper - 1);
         d = skip_comment(s, e, o.value);
-        i += 1;
     }
     aipsio::objects::close(d, c)
 }

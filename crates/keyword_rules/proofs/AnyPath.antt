@@ -9,7 +9,8 @@ use lib.Dec.{eqb}
 use Rattle.bytes_at.specs.Steps.{after, ◌>>=◌}
 use Rattle.aipsio_rules.specs.declared.Cursor.{Cursor}
 use Rattle.keyword_rules.specs.declared.Held.{Held}
-use Rattle.keyword_rules.specs.declared.Found.{Found}
+use Rattle.std.specs.declared.option.Option.{Option}
+use Rattle.keyword_rules.specs.declared.Field.{Field}
 use Rattle.keyword_rules.specs.declared.Sought.{Sought}
 use Rattle.keyword_rules.specs.declared.Standing.{Standing}
 use Rattle.keyword_rules.specs.declared.Walked.{Walked}
@@ -23,8 +24,8 @@ either : (t : Bool) {a b w x : Standing} → Same a b → Same w x → Same (con
 either true k l = k
 either false k l = l
 
-module _ (s path other : List ℕ) (sought sought' : Sought) (f g : Held → Cursor → Found → Walked)
-    (agree : (b : Held) (p q : Cursor) (h k : Found) → (f b p h).values ≡ (g b q k).values) (deeper version : ℕ) where
+module _ (s path other : List ℕ) (sought sought' : Sought) (f g : Held → Cursor → Option Field → Walked)
+    (agree : (b : Held) (p q : Cursor) (h k : Option Field) → (f b p h).values ≡ (g b q k).values) (deeper version : ℕ) where
   once_same : {w x : Standing} (i : ℕ) → Same w x → Same (field_once f s path sought deeper version w i) (field_once g s other sought' deeper version x i)
   unfolding field_once ◌>>=◌
   once_same i r = record { desc = rw (r.desc, r.values); values = rw (r.desc, r.values) (agree _ _ _ _ _) }
@@ -39,7 +40,7 @@ module _ (s path other : List ℕ) (sought sought' : Sought) (f g : Held → Cur
   after_same zero r = r
   after_same (suc n) r = into_same n (after_same n r)
 
-pub any_path : (s path other : List ℕ) (sought sought' : Sought) (deeper : ℕ) (b : Held) (p q : Cursor) (h k : Found)
+pub any_path : (s path other : List ℕ) (sought sought' : Sought) (deeper : ℕ) (b : Held) (p q : Cursor) (h k : Option Field)
     → (walk_at deeper s path sought b p h).values ≡ (walk_at deeper s other sought' b q k).values
 unfolding walk_at walk_with ◌>>=◌
 any_path s path other sought sought' zero b p q h k = refl

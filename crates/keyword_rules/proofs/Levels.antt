@@ -8,15 +8,17 @@ use borrow.Author.Tests.{eq-eqb, ne_eqb}
 use Rattle.bytes_at.specs.Steps.{after}
 use Rattle.bytes_at.proofs.Loops.{after_stop}
 use Rattle.aipsio_rules.specs.declared.Cursor.{Cursor}
-use Rattle.aipsio_rules.proofs.Kept.{Clean, Refused, Keeps, keeps_same, cond_keeps}
+use Rattle.aipsio_rules.proofs.Kept.{Clean, Refused, Keeps, keeps_same}
 use Rattle.aipsio_rules.proofs.ObjectKept.{closed_keeps}
 use Rattle.keyword_rules.specs.declared.Held.{Held}
-use Rattle.keyword_rules.specs.declared.Found.{Found}
+use Rattle.std.specs.declared.option.Option.{Option}
+use Rattle.std.specs.declared.option.Option.TheVariants.{Some, None}
+use Rattle.keyword_rules.specs.declared.Field.{Field}
 use Rattle.keyword_rules.specs.declared.Sought.{Sought}
 use Rattle.keyword_rules.specs.declared.Standing.{Standing}
 use Rattle.keyword_rules.specs.declared.Walked.{Walked}
 use Rattle.keyword_rules.specs.RecordDesc.{specific_at, desc_with, type_desc_at}
-use Rattle.keyword_rules.specs.TableRecord.{left_at, field_once, field_into, walk_with, walk_at}
+use Rattle.keyword_rules.specs.TableRecord.{left_out, left_at, field_once, field_into, walk_with, walk_at}
 
 -- A description.
 module _ (s : List ℕ) (c : Cursor) (number : ℕ) where
@@ -35,12 +37,16 @@ module _ (s : List ℕ) (c : Cursor) (number : ℕ) where
   desc_level (suc d) h n = rw (sub-one, eq-eqb number 25 h)
 
 -- A walk.
+out_keeps : (v : Cursor) (o : Option Cursor) → Keeps v (left_out v o)
+out_keeps v None = keeps_same v
+out_keeps v (Some outer) = closed_keeps v outer
+
 pub left_keeps : (v : Cursor) (b : Held) → Keeps v (left_at v b)
 unfolding left_at
-left_keeps v b = cond_keeps b.whole (closed_keeps v b.outer) (keeps_same v)
+left_keeps v b = out_keeps v b.outer
 
 -- one field
-module _ (held : Held → Cursor → Found → Walked) (s path : List ℕ) (sought : Sought) (deeper version : ℕ) where
+module _ (held : Held → Cursor → Option Field → Walked) (s path : List ℕ) (sought : Sought) (deeper version : ℕ) where
   pub into_on : (w : Standing) (i : ℕ) {y : Standing} → Clean w.values → y ≡ field_once held s path sought deeper version w i
       → y ≡ field_into held s path sought deeper version w i
   unfolding field_into
@@ -56,7 +62,7 @@ module _ (held : Held → Cursor → Found → Walked) (s path : List ℕ) (soug
   into_stop x i n {w} p h r = after_stop _ x i n p h (λ j. into_kept w j r)
 
 -- one level
-module _ (s path : List ℕ) (sought : Sought) (b : Held) (p : Cursor) (found : Found) where
+module _ (s path : List ℕ) (sought : Sought) (b : Held) (p : Cursor) (found : Option Field) where
   pub walk_none : (deeper : ℕ) → deeper ≡ 0 → walk_at deeper s path sought b p found ≡ record { values = b.values; found = found }
   unfolding walk_at
   walk_none deeper e = rw e

@@ -8,7 +8,7 @@ use native.Mathlib.Decide.{ℕ_discrete, dec_le}
 use native.Mathlib.Nat.{mul-zero, mul-le-mul_right, le-mul_of_pos_right, pos_of_ne-zero, div-le_self, le-div_iff_mul-le}
 use native.Mathlib.Omega.{arith}
 use lib.Dec.{eqb}
-use borrow.Author.Tests.{lt-ltb, le-ltb, lt-leb}
+use borrow.Author.Tests.{lt-leb}
 use Rattle.bytes_at.specs.Steps.{after, ◌>>=◌}
 use Rattle.aipsio_rules.specs.declared.Cursor.{Cursor}
 use Rattle.aipsio_rules.specs.declared.Value.{Value}
@@ -25,10 +25,10 @@ use Rattle.keyword_rules.proofs.Forward.{array_opened_forward, origin_forward, l
 
 -- Products.
 cap_small : (n : ℕ) → n < 4294967296 → capped n ≡ n
-cap_small n h = rw (lt-ltb n 4294967296 h)
+cap_small n h = omega arith
 
 cap_large : (n : ℕ) → 4294967296 ≤ n → capped n ≡ 4294967296
-cap_large n h = rw (le-ltb n 4294967296 h)
+cap_large n h = omega arith
 
 cap_product : (v a : ℕ) → 4294967296 ≤ v → capped (4294967296 * a) ≡ capped (v * a)
 cap_product v a h = elim (ℕ_discrete a 0) [

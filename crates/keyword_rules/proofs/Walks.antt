@@ -19,20 +19,22 @@ use Rattle.bytes_at.specs.Steps.{after, ◌>>=◌}
 use Rattle.aipsio_rules.specs.declared.Cursor.{Cursor}
 use Rattle.aipsio_rules.specs.declared.Text.{Text}
 use Rattle.aipsio_rules.specs.Field.{settled, uint_at, string_at, name_at, text_at, judged}
-use Rattle.aipsio_rules.specs.Object.{opened, closed, passed}
+use Rattle.aipsio_rules.specs.Object.{opened, passed}
 use Rattle.aipsio_rules.proofs.Kept.{Clean, Keeps, keeps_same, clean_before, string_reads, ◌⨟◌}
 use Rattle.aipsio_rules.proofs.Accepted.{judged_passed, text_is, string_is}
 use Rattle.aipsio_rules.proofs.ObjectKept.{closed_keeps, passed_keeps}
 use Rattle.aipsio_rules.proofs.ObjectAccepted.{closed_is}
 use Rattle.aipsio_rules.proofs.Forward.{Within, Forward, Moves, forward_same, ◌⊳◌, moves_on, uint_forward, text_forward, opened_forward, opened_moves, closed_moves}
 use Rattle.keyword_rules.specs.declared.Held.{Held}
-use Rattle.keyword_rules.specs.declared.Found.{Found}
+use Rattle.std.specs.declared.option.Option.{Option}
+use Rattle.std.specs.declared.option.Option.TheVariants.{Some, None}
+use Rattle.keyword_rules.specs.declared.Field.{Field}
 use Rattle.keyword_rules.specs.declared.Sought.{Sought}
 use Rattle.keyword_rules.specs.declared.Standing.{Standing}
 use Rattle.keyword_rules.specs.declared.Walked.{Walked}
 use Rattle.keyword_rules.specs.Values.{is_record_type, is_keyword_type}
 use Rattle.keyword_rules.specs.RecordDesc.{may_hold, field_head_at}
-use Rattle.keyword_rules.specs.TableRecord.{whole_at, record_held_at, plain_held_at, held_at, left_at, is_sought, field_found, found_after, field_once, field_into, walk_with, walk_at}
+use Rattle.keyword_rules.specs.TableRecord.{whole_at, record_held_at, plain_held_at, held_at, left_out, left_at, is_sought, field_found, field_once, field_into, walk_with, walk_at}
 use Rattle.keyword_rules.proofs.Forward.{plain_forward, plain_moves, head_forward, specific_forward, comment_forward, type_desc_forward}
 
 module _ (B : ℕ) where
@@ -87,18 +89,19 @@ head_level s c deeper h =
     ]
 
 module _ (A B : ℕ) where
-  pub record Good (h : Found) : Type 0 where
+  pub record Good (h : Field) : Type 0 where
     pub begins : A ≤ h.start
     pub some : 0 < h.len
     pub ends : h.start + h.len ≤ B
     pub name : h.name + h.name_len ≤ B
 
   -- what is found, if anything is
-  abbrev pub Goods : Found → Type 0
-  Goods h = h.known ≡ true → Good h
+  abbrev pub Goods : Option Field → Type 0
+  Goods None = Unit {0}
+  Goods (Some h) = Good h
 
   pub record Entered (v : Cursor) (b : Held) (deeper : ℕ) : Type 0 where
-    pub outer : b.outer ≡ v
+    pub outer : (c : Cursor) → b.outer ≡ Some c → c ≡ v
     pub inside : Forward B v b.values
     pub empty : b.count ≡ 0 → Moves v b.values
     pub last : deeper ≡ 0 → Moves v b.values
@@ -123,7 +126,7 @@ module _ {A B : ℕ} (s : List ℕ) where
   whole_entered c past deeper =
       let f = type_desc_forward {B = B} s deeper _ 25 ⊳ uint_forward s _ in
       let m = moves_on (opened_moves s c _ 1 1) f in
-      record { outer = refl; inside = opened_forward s c _ 1 1 ⊳ f; empty = λ e. m; last = λ e. m }
+      record { outer = λ d e. cc; inside = opened_forward s c _ 1 1 ⊳ f; empty = λ e. m; last = λ e. m }
 
   entered_either : (t : Bool) {c : Cursor} {a b : Held} {deeper : ℕ} → Entered A B c a deeper → Entered A B c b deeper → Entered A B c (cond t a b) deeper
   entered_either true a b = a
@@ -135,7 +138,7 @@ module _ {A B : ℕ} (s : List ℕ) where
       let n = (uint_at s (opened s c (bytes "RecordDesc") 1 2).next).value in
       elim (ℕ_discrete n 0) [
         | yes e ↦ rw (eq-eqb n 0 e) (whole_entered v (passed (opened s c (bytes "RecordDesc") 1 2).next c) deeper)
-        | no e ↦ rw (ne_eqb n 0 e) (record { outer = refl; inside = forward_same v; empty = λ z. absurd (e z); last = λ z. absurd (no_level z) })
+        | no e ↦ rw (ne_eqb n 0 e) (record { outer = λ d e. absurd (cc); inside = forward_same v; empty = λ z. absurd (e z); last = λ z. absurd (no_level z) })
       ]
     where
       no_level : deeper ≡ 0 → ⊥
@@ -143,7 +146,7 @@ module _ {A B : ℕ} (s : List ℕ) where
 
   plain_entered : (c v : Cursor) (number deeper : ℕ) → Entered A B v (plain_held_at s c v number) deeper
   unfolding plain_held_at ◌>>=◌
-  plain_entered c v number deeper = record { outer = refl; inside = plain_forward s v number; empty = λ e. plain_moves s v number; last = λ e. plain_moves s v number }
+  plain_entered c v number deeper = record { outer = λ d e. absurd (cc); inside = plain_forward s v number; empty = λ e. plain_moves s v number; last = λ e. plain_moves s v number }
 
   held_entered : (c v : Cursor) (number deeper : ℕ) → (number ≡ 25 → 0 < deeper) → Entered A B v (held_at s c v number deeper) deeper
   unfolding held_at
@@ -199,14 +202,14 @@ module _ {B : ℕ} (s : List ℕ) where
   unfolding field_head_at ◌>>=◌
   head_name c deeper k = name_in_lem s c k
 
-module _ {A B : ℕ} (s : List ℕ) where
-  goods_either : (t : Bool) {x y : Found} → Goods A B x → Goods A B y → Goods A B (cond t x y)
-  goods_either true g h = g
-  goods_either false g h = h
+goods_either : (A B : ℕ) (t : Bool) (x y : Option Field) → Goods A B x → Goods A B y → Goods A B (cond t x y)
+goods_either A B true x y g h = g
+goods_either A B false x y g h = h
 
+module _ {A B : ℕ} (s : List ℕ) where
   -- one field after another, where each value is walked by `held`
-  module _ (path : List ℕ) (sought : Sought) (held : Held → Cursor → Found → Walked) (deeper : ℕ)
-      (k : (v : Cursor) (b : Held) → Entered A B v b deeper → Sound B v → (Clean v → A ≤ v.at) → Sound B b.desc → (q : Cursor) (h : Found)
+  module _ (path : List ℕ) (sought : Sought) (held : Held → Cursor → Option Field → Walked) (deeper : ℕ)
+      (k : (v : Cursor) (b : Held) → Entered A B v b deeper → Sound B v → (Clean v → A ≤ v.at) → Sound B b.desc → (q : Cursor) (h : Option Field)
       → (Clean v → Goods A B h) → Result A B v (held b q h))
       (version : ℕ) (v : Cursor) (low : Clean v → A ≤ v.at) where
     abbrev once : Standing → ℕ → Standing
@@ -222,7 +225,7 @@ module _ {A B : ℕ} (s : List ℕ) where
       moves : Moves w.values z.values
 
     once_next : (w : Standing) (i : ℕ) → Stands A B v w → Next w (once w i)
-    unfolding field_once found_after ◌>>=◌
+    unfolding field_once ◌>>=◌
     once_next w i st =
         let f = field_head_at s w.desc deeper in
         let q = name_at path w.path (take f.len (drop f.start s)) in
@@ -244,7 +247,7 @@ module _ {A B : ℕ} (s : List ℕ) where
                 let e = (r.sound h).at in
                 let g : Good A B (field_found f w.values x.values) =
                 record { begins = here c; some = omega arith; ends = omega arith; name = head_name s w.desc deeper st.desc } in
-                goods_either (is_sought sought w.path q i) (λ y. g) (r.goods h);
+                goods_either A B (is_sought sought w.path q i) (Some (field_found f w.values x.values)) x.found g (r.goods h);
           };
           kept = r.keeps;
           moves = r.moves;
@@ -271,13 +274,13 @@ module _ {A B : ℕ} (s : List ℕ) where
         record { ahead = λ h. let a = q.moves.ahead h in let o = p.on (clean_before q.kept h) in omega arith }
 
   -- out of a value
-  left_result : (v to : Cursor) (b : Held) (h : Found) → b.outer ≡ v → Sound B v → Result A B v (record { values = to; found = h })
+  left_result : (v to : Cursor) (b : Held) (h : Option Field) → ((c : Cursor) → b.outer ≡ Some c → c ≡ v) → Sound B v → Result A B v (record { values = to; found = h })
       → Result A B v (record { values = left_at to b; found = h })
   unfolding left_at
-  left_result v to b h e k r = go b.whole refl
+  left_result v to b h e k r = go b.outer refl
     where
-      go : (t : Bool) → b.whole ≡ t → Result A B v (record { values = cond t (closed to b.outer) to; found = h })
-      go true q = rw e (record {
+      go : (o : Option Cursor) → b.outer ≡ o → Result A B v (record { values = left_out to o; found = h })
+      go (Some outer) q = rw (e outer q) (record {
         keeps = r.keeps ⨟ closed_keeps to v;
         moves = closed_moves s v r.moves;
         sound = λ c.
@@ -285,10 +288,10 @@ module _ {A B : ℕ} (s : List ℕ) where
             rw (closed_is to v c) (record { at = (r.sound f).at; end = (k (clean_before r.keeps f)).end });
         goods = λ c. r.goods (clean_before (closed_keeps to v) c);
       })
-      go false q = r
+      go None q = r
 
   pub walk_result : (path : List ℕ) (sought : Sought) (deeper : ℕ) (v : Cursor) (b : Held) → Entered A B v b deeper → Sound B v → (Clean v → A ≤ v.at)
-      → Sound B b.desc → (p : Cursor) (h : Found) → (Clean v → Goods A B h) → Result A B v (walk_at deeper s path sought b p h)
+      → Sound B b.desc → (p : Cursor) (h : Option Field) → (Clean v → Goods A B h) → Result A B v (walk_at deeper s path sought b p h)
   unfolding walk_at walk_with ◌>>=◌
   walk_result path sought zero v b e k low d p h g = record {
     keeps = e.inside.keeps;
@@ -297,7 +300,7 @@ module _ {A B : ℕ} (s : List ℕ) where
     goods = λ c. g (clean_before e.inside.keeps c);
   }
   walk_result path sought (suc l) v b e k low d p h g =
-      let held : Held → Cursor → Found → Walked = λ x q f. walk_at l s path sought x q f in
+      let held : Held → Cursor → Option Field → Walked = λ x q f. walk_at l s path sought x q f in
       let w : Standing = record { desc = b.desc; values = b.values; path = p; found = h } in
       let st : Stands A B v w =
       record {

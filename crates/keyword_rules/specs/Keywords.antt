@@ -1,9 +1,9 @@
 -- RULES.md 4.16 and 4.17: the questions Keyword and Field.
-use Rattle.std.specs.Prelude.{ℕ, ◌+◌, ◌≤◌, ◌<◌, ◌≡◌, List, Bool, true, cond, length, take, drop, eqb, ltb}
+use Rattle.std.specs.Prelude.{ℕ, ◌+◌, ◌≤◌, ◌<◌, ◌≡◌, List, [], Bool, true, cond, length, take, drop, eqb, ltb, None, Result, Ok, Err, ok_or}
 use Rattle.bytes_at.specs.Bytes.{bytes}
 use Rattle.bytes_at.specs.Steps.{◌>>=◌}
 use Rattle.bytes_at.specs.declared.Refusal.{Refusal}
-use Rattle.bytes_at.specs.Stages.{no_refusal, ◌▷◌, or_no, OthersCarry0}
+use Rattle.bytes_at.specs.Stages.{no_refusal, blaming, ◌▷◌, or_no, OthersCarry0}
 use Rattle.aipsio_rules.specs.declared.Cursor.{Cursor}
 use Rattle.aipsio_rules.specs.Field.{refusal_in, skipped, number_at, mark_at}
 use Rattle.aipsio_rules.specs.Object.{opened, record_at}
@@ -11,18 +11,14 @@ use Rattle.table_rules.specs.declared.Column.{Column}
 use Rattle.table_rules.specs.declared.Description.{Description}
 use Rattle.table_rules.specs.ColumnDesc.{notes_at, layout_at}
 use Rattle.table_rules.specs.Table.{whole_of, table_head_at, table_notes_at, described_as, column_in}
-use Rattle.keyword_rules.specs.declared.Found.{Found}
+use Rattle.keyword_rules.specs.declared.Field.{Field}
 use Rattle.keyword_rules.specs.declared.Walked.{Walked}
 use Rattle.keyword_rules.specs.declared.Sought.{Sought}
 use Rattle.keyword_rules.specs.declared.Sought.TheVariants.{Value as NamedValue, Field as FieldOf}
 use Rattle.keyword_rules.specs.declared.Scope.{Scope}
 use Rattle.keyword_rules.specs.declared.Scope.TheVariants.{Table as OfTable, Column as OfColumn}
-use Rattle.keyword_rules.specs.declared.Search.{Search}
 use Rattle.keyword_rules.specs.declared.Keyword.{Keyword}
-use Rattle.keyword_rules.specs.declared.Keyword.TheVariants.{At as KeywordAt, Refused as NoKeyword}
-use Rattle.keyword_rules.specs.declared.Field.{Field}
-use Rattle.keyword_rules.specs.declared.Field.TheVariants.{At as FieldAt, Refused as NoField}
-use Rattle.keyword_rules.specs.TableRecord.{whole_at, walk_at, none_found}
+use Rattle.keyword_rules.specs.TableRecord.{whole_at, walk_at}
 
 -- the bytes from one place to another, big endian
 abbrev pub between : ℕ → ℕ → Cursor
@@ -61,52 +57,55 @@ abbrev pub is_scope : Description → Scope → Bool
 is_scope d OfTable = true
 is_scope d (OfColumn k) = ltb k d.column_count
 
--- "A refusal carries its number and zeros", and beside them its byte.
-abbrev pub refused_search : Refusal → Search
-refused_search why = record { refused = why; found = none_found }
-
-abbrev pub searched : Refusal → Found → Search
-searched why found = cond (eqb why.number 0) (record { refused = no_refusal; found = found }) (refused_search why)
+-- an answer, unless a stage before it refuses
+abbrev pub searched : Refusal → Result Field Refusal → Result Field Refusal
+searched why found = cond (eqb why.number 0) found (Err why)
 
 -- a walk through the keyword set that begins at a place: "at most eight deep, the outermost being 1"
 unfoldable pub walked_at : List ℕ → List ℕ → Sought → ℕ → Walked
 walked_at s path sought start = do
   b ← whole_at s (from start s) (from start s) 8
-  walk_at 8 s path sought b (from 0 path) none_found
+  walk_at 8 s path sought b (from 0 path) None
 
 -- "1 to 7 and 15 in file order over that whole TableRecord, then 16"
-unfoldable pub search_at : List ℕ → List ℕ → Sought → ℕ → Search
+unfoldable pub search_at : List ℕ → List ℕ → Sought → ℕ → Result Field Refusal
 search_at s path sought start = do
   w ← walked_at s path sought start
-  searched (refusal_in w.values ▷ or_no w.found.known 16) w.found
+  searched (refusal_in w.values) (ok_or w.found (blaming 16 0))
 
 -- "the table's refusals, 8", then those of the keyword set
-unfoldable pub keyword_search : List ℕ → Scope → List ℕ → Sought → Search
+unfoldable pub keyword_search : List ℕ → Scope → List ℕ → Sought → Result Field Refusal
 keyword_search s scope path sought = do
   d ← described_as s
   why ← d.refused ▷ or_no (is_scope d scope) 8
-  cond (eqb why.number 0) (search_at s path sought (keywords_of s d scope)) (refused_search why)
+  searched why (search_at s path sought (keywords_of s d scope))
+
+-- why an answer is refused: "A refusal carries its number", beside it its byte
+abbrev pub refusal_of : Result Field Refusal → Refusal
+refusal_of (Ok field) = no_refusal
+refusal_of (Err why) = why
 
 -- Keyword: "the type number, and the part of table.dat that holds the value"
-abbrev pub keyword_in : Search → Keyword
-keyword_in x = cond (eqb x.refused.number 0) (KeywordAt x.found.number x.found.start x.found.len) (NoKeyword x.refused)
+abbrev pub keyword_in : Result Field Refusal → Result Keyword Refusal
+keyword_in (Ok field) = Ok (record { number = field.number; start = field.start; len = field.len })
+keyword_in (Err why) = Err why
 
-unfoldable pub keyword_of : List ℕ → Scope → List ℕ → Keyword
+abbrev pub keyword_of : List ℕ → Scope → List ℕ → Result Keyword Refusal
 keyword_of s scope path = keyword_in (keyword_search s scope path NamedValue)
 
 -- "its part of the caller's table.dat, the empty part where it is refused"
-abbrev pub keyword_part : List ℕ → Search → List ℕ
-keyword_part s x = take x.found.len (drop x.found.start s)
+abbrev pub keyword_part : List ℕ → Result Field Refusal → List ℕ
+keyword_part s (Ok field) = take field.len (drop field.start s)
+keyword_part s (Err why) = []
+
+-- where that part begins, the empty one at 0
+abbrev pub part_start : Result Field Refusal → ℕ
+part_start (Ok field) = field.start
+part_start (Err why) = 0
 
 -- Field: the field with a number "of the record that the path names, the whole keyword set where it is empty"
-abbrev pub field_in : Search → Field
-field_in x =
-    cond (eqb x.refused.number 0)
-    (FieldAt x.found.name x.found.name_len x.found.number x.found.start x.found.len)
-    (NoField x.refused)
-
-unfoldable pub field_of : List ℕ → Scope → List ℕ → ℕ → Field
-field_of s scope path n = field_in (keyword_search s scope path (FieldOf n))
+abbrev pub field_of : List ℕ → Scope → List ℕ → ℕ → Result Field Refusal
+field_of s scope path n = keyword_search s scope path (FieldOf n)
 
 -- where the keyword set that begins at a place ends: "A TableRecord (1) is passed over by its length."
 abbrev pub keywords_end : List ℕ → ℕ → ℕ
@@ -120,36 +119,37 @@ pub record PartIn (s : List ℕ) (set start len : ℕ) : Type 0 where
   pub file : keywords_end s set ≤ length s
 
 -- and so does the name, which may be empty
-pub record FoundThere (s : List ℕ) (set : ℕ) (found : Found) : Type 0 where
+pub record FoundThere (s : List ℕ) (set : ℕ) (found : Field) : Type 0 where
   pub part : PartIn s set found.start found.len
   pub name : found.name + found.name_len ≤ keywords_end s set
 
--- Of every search: what is found is there; a refusal has zeros, and "Others carry 0".
-pub record SearchSays (s : List ℕ) (scope : Scope) (x : Search) : Type 0 where
-  pub there : x.refused.number ≡ 0 → FoundThere s (keywords_of s (described_as s) scope) x.found
-  pub zeros : (x.refused.number ≡ 0 → ⊥) → x.found ≡ none_found
-  pub others : OthersCarry0 x.refused
+-- a refusal has a number, and "Others carry 0"
+pub record Refuses (why : Refusal) : Type 0 where
+  pub some : why.number ≡ 0 → ⊥
+  pub others : OthersCarry0 why
+
+-- Of every search: what is found is there.
+abbrev pub SearchSays : List ℕ → Scope → Result Field Refusal → Type 0
+SearchSays s scope (Ok field) = FoundThere s (keywords_of s (described_as s) scope) field
+SearchSays s scope (Err why) = Refuses why
 
 abbrev pub EveryKeyword : Type 0
 EveryKeyword = (s : List ℕ) (scope : Scope) (path : List ℕ) (sought : Sought) → SearchSays s scope (keyword_search s scope path sought)
 
 -- the same of what each question answers
-abbrev pub KeywordThere : List ℕ → Scope → Keyword → Type 0
-KeywordThere s scope (KeywordAt number start len) = PartIn s (keywords_of s (described_as s) scope) start len
-KeywordThere s scope (NoKeyword why) = OthersCarry0 why
+abbrev pub KeywordThere : List ℕ → Scope → Result Keyword Refusal → Type 0
+KeywordThere s scope (Ok keyword) = PartIn s (keywords_of s (described_as s) scope) keyword.start keyword.len
+KeywordThere s scope (Err why) = Refuses why
 
-abbrev pub FieldThere : List ℕ → Scope → Field → Type 0
-FieldThere s scope (FieldAt name len number start length) =
-    FoundThere s (keywords_of s (described_as s) scope) (record { known = true; name = name; name_len = len; number = number; start = start; len = length })
-FieldThere s scope (NoField why) = OthersCarry0 why
+abbrev pub FieldThere : List ℕ → Scope → Result Field Refusal → Type 0
+FieldThere s scope x = SearchSays s scope x
 
--- "What refuses a keyword set does not hang on the path": a number below 16 is the same for every question about it.
+-- "What refuses a keyword set does not hang on the path": a refusal that is not 16 is that of every question about it.
 abbrev pub EveryPath : Type 0
 EveryPath =
-    (s : List ℕ) (scope : Scope) (path other : List ℕ) (sought sought' : Sought)
-    → ((keyword_search s scope path sought).refused.number ≡ 0 → ⊥)
-    → ((keyword_search s scope path sought).refused.number ≡ 16 → ⊥)
-    → keyword_search s scope other sought' ≡ keyword_search s scope path sought
+    (s : List ℕ) (scope : Scope) (path other : List ℕ) (sought sought' : Sought) (why : Refusal)
+    → keyword_search s scope path sought ≡ Err why → (why.number ≡ 16 → ⊥)
+    → keyword_search s scope other sought' ≡ Err why
 
 -- "A TableRecord begins where a keyword set is looked for."
 abbrev pub KeywordSetsThere : Type 0

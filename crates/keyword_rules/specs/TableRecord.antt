@@ -1,6 +1,6 @@
 -- RULES.md 4.15, and Note 260, section 2.4: TableRecord. Its description stands before its values, so they are walked with two
 -- places, one in the description and one in the values; and with a third in the path, to find what is asked.
-use Rattle.std.specs.Prelude.{ℕ, zero, suc, ◌-◌, List, Bool, true, false, cond, not, ◌&&◌, take, drop, eqb}
+use Rattle.std.specs.Prelude.{ℕ, zero, suc, ◌-◌, List, Bool, cond, not, ◌&&◌, take, drop, eqb, Option, Some, None}
 use Rattle.bytes_at.specs.Bytes.{bytes}
 use Rattle.bytes_at.specs.Steps.{◌>>=◌, after}
 use Rattle.aipsio_rules.specs.declared.Cursor.{Cursor}
@@ -8,7 +8,7 @@ use Rattle.aipsio_rules.specs.Field.{judged, uint_at, name_at}
 use Rattle.aipsio_rules.specs.Object.{opened, closed, passed}
 use Rattle.keyword_rules.specs.declared.FieldHead.{FieldHead}
 use Rattle.keyword_rules.specs.declared.Held.{Held}
-use Rattle.keyword_rules.specs.declared.Found.{Found}
+use Rattle.keyword_rules.specs.declared.Field.{Field}
 use Rattle.keyword_rules.specs.declared.Standing.{Standing}
 use Rattle.keyword_rules.specs.declared.Walked.{Walked}
 use Rattle.keyword_rules.specs.declared.Sought.{Sought}
@@ -25,7 +25,7 @@ whole_at s c past deeper = do
   kind ← uint_at s e
   o ← opened s t.next (bytes "RecordDesc") 1 2
   n ← uint_at s o.next
-  record { count = n.value; version = o.value; desc = n.next; values = kind.next; whole = true; outer = c; past = past }
+  record { count = n.value; version = o.value; desc = n.next; values = kind.next; outer = Some c; past = past }
 
 -- a held record, described at c, whose values stand at v: "only its values are stored". "One with an empty description has a whole
 -- TableRecord, which may be empty, as its value, at the same depth."
@@ -36,22 +36,26 @@ record_held_at s c v deeper = do
   past ← passed o.next c
   cond (eqb n.value 0)
       (whole_at s v past deeper)
-      (record { count = n.value; version = o.value; desc = n.next; values = v; whole = false; outer = v; past = past })
+      (record { count = n.value; version = o.value; desc = n.next; values = v; outer = None; past = past })
 
 -- a value that is no record: past it, with no fields to walk
 unfoldable pub plain_held_at : List ℕ → Cursor → Cursor → ℕ → Held
 plain_held_at s c v number = do
   past ← specific_at s c number
   values ← plain_at s v number
-  record { count = 0; version = 0; desc = c; values = values; whole = false; outer = v; past = past }
+  record { count = 0; version = 0; desc = c; values = values; outer = None; past = past }
 
 -- a value of a type, described from c on, that stands at v
 unfoldable pub held_at : List ℕ → Cursor → Cursor → ℕ → ℕ → Held
 held_at s c v number deeper = cond (is_record_type number) (record_held_at s c v deeper) (plain_held_at s c v number)
 
 -- out of a value whose last field is read: a whole TableRecord has no bytes left, "else 7"
+abbrev pub left_out : Cursor → Option Cursor → Cursor
+left_out v None = v
+left_out v (Some outer) = closed v outer
+
 unfoldable pub left_at : Cursor → Held → Cursor
-left_at v b = cond b.whole (closed v b.outer) v
+left_at v b = left_out v b.outer
 
 -- the path ends here
 abbrev pub is_ended : Cursor → Bool
@@ -64,9 +68,8 @@ is_sought NamedValue p q i = is_ended q
 is_sought (FieldOf n) p q i = is_ended p && eqb i n
 
 -- a field with its value, which stands between two places: "all its bytes as stored"
-abbrev pub field_found : FieldHead → Cursor → Cursor → Found
+abbrev pub field_found : FieldHead → Cursor → Cursor → Field
 field_found f from to = record {
-  known = true;
   name = f.start;
   name_len = f.len;
   number = f.number;
@@ -75,42 +78,38 @@ field_found f from to = record {
 }
 
 -- what is found behind a field: the field itself, if it is asked; else what was found before
-unfoldable pub found_after : Sought → Cursor → Cursor → ℕ → FieldHead → Cursor → Cursor → Found → Found
-found_after sought p q i f from to found = cond (is_sought sought p q i) (field_found f from to) found
-
--- nothing yet
-abbrev pub none_found : Found
-none_found = record { known = false; name = 0; name_len = 0; number = 0; start = 0; len = 0 }
+abbrev pub found_after : Bool → Field → Option Field → Option Field
+found_after asked field found = cond asked (Some field) found
 
 -- one field: its name and type; the path behind its name, if that is the next one; its value, which `held` walks; its comment. "Of
 -- equal names the first counts": behind it no name is looked for among these fields (16).
-unfoldable pub field_once : (Held → Cursor → Found → Walked) → List ℕ → List ℕ → Sought → ℕ → ℕ → Standing → ℕ → Standing
+unfoldable pub field_once : (Held → Cursor → Option Field → Walked) → List ℕ → List ℕ → Sought → ℕ → ℕ → Standing → ℕ → Standing
 field_once held s path sought deeper version w i = do
   f ← field_head_at s w.desc deeper
   name ← take f.len (drop f.start s)
   q ← name_at path w.path name
   b ← held_at s f.next w.values f.number deeper
   x ← held b q w.found
-  h ← found_after sought w.path q i f w.values x.values x.found
+  h ← found_after (is_sought sought w.path q i) (field_found f w.values x.values) x.found
   e ← comment_at s b.past version
   r ← judged w.path w.path.at (not (eqb q.refused 0)) 16
   record { desc = e; values = x.values; path = r; found = h }
 
 -- one field more, as long as nothing is refused
-unfoldable pub field_into : (Held → Cursor → Found → Walked) → List ℕ → List ℕ → Sought → ℕ → ℕ → Standing → ℕ → Standing
+unfoldable pub field_into : (Held → Cursor → Option Field → Walked) → List ℕ → List ℕ → Sought → ℕ → ℕ → Standing → ℕ → Standing
 field_into held s path sought deeper version w i =
     let next : Standing = field_once held s path sought deeper version w i in
     cond (eqb w.values.refused 0) next w
 
 -- the fields of a value, each walked in turn
-unfoldable pub walk_with : (Held → Cursor → Found → Walked) → List ℕ → List ℕ → Sought → ℕ → Held → Cursor → Found → Walked
+unfoldable pub walk_with : (Held → Cursor → Option Field → Walked) → List ℕ → List ℕ → Sought → ℕ → Held → Cursor → Option Field → Walked
 walk_with held s path sought deeper b p found = do
   w ← after (field_into held s path sought deeper b.version) (record { desc = b.desc; values = b.values; path = p; found = found }) b.count
   to ← left_at w.values b
   record { values = to; found = w.found }
 
 -- `deeper` is how many levels of records may still be entered: none below the eighth
-unfoldable pub walk_at : ℕ → List ℕ → List ℕ → Sought → Held → Cursor → Found → Walked
+unfoldable pub walk_at : ℕ → List ℕ → List ℕ → Sought → Held → Cursor → Option Field → Walked
 walk_at zero s path sought b p found = record { values = b.values; found = found }
 walk_at (suc d) s path sought b p found =
-    walk_with (λ (c : Held) (q : Cursor) (h : Found). walk_at d s path sought c q h) s path sought d b p found
+    walk_with (λ (c : Held) (q : Cursor) (h : Option Field). walk_at d s path sought c q h) s path sought d b p found

@@ -1,6 +1,6 @@
 -- RULES.md 4.12 and 4.13, and Note 260, sections 2 and 2.1: the types of keywords, and the values that hold no record, their fields
 -- in file order.
-use Rattle.std.specs.Prelude.{ℕ, ◌+◌, ◌*◌, ◌-◌, ◌/◌, ◌≤◌, ◌≡◌, List, Bool, true, false, cond, ◌&&◌, take, drop, leb, ltb, eqb}
+use Rattle.std.specs.Prelude.{ℕ, ◌+◌, ◌*◌, ◌-◌, ◌/◌, ◌≤◌, ◌≡◌, List, Bool, true, false, cond, ◌&&◌, take, drop, leb, ltb, eqb, min, Option, is_some}
 use Rattle.bytes_at.specs.Number.{uint_of}
 use Rattle.bytes_at.specs.Bytes.{bytes, same_bytes}
 use Rattle.bytes_at.specs.Steps.{◌>>=◌, after}
@@ -9,8 +9,7 @@ use Rattle.aipsio_rules.specs.declared.Value.{Value}
 use Rattle.aipsio_rules.specs.declared.Text.{Text}
 use Rattle.aipsio_rules.specs.Field.{skipped, skipped_each, judged, settled, uint_at, version_at, code_at, flag_at, text_at, string_at}
 use Rattle.aipsio_rules.specs.Object.{entered, closed}
-use Rattle.table_rules.specs.declared.data_type.Known.{Known}
-use Rattle.table_rules.specs.declared.data_type.Known.TheVariants.{Of, Nothing}
+use Rattle.table_rules.specs.declared.data_type.DataType.{DataType}
 use Rattle.table_rules.specs.DataType.{element_bits, with_number}
 
 -- "Array numbers are 13 and 15 to 24 for types 0 and 2 to 11, then 30 for Int64"
@@ -28,9 +27,8 @@ is_table_type n = eqb n 12
 abbrev pub is_record_type : ℕ → Bool
 is_record_type n = eqb n 25
 
-abbrev pub is_known : Known → Bool
-is_known (Of t) = true
-is_known Nothing = false
+abbrev pub is_known : Option DataType → Bool
+is_known t = is_some t
 
 -- the numbers that a keyword's type may have: those of 4.3, of arrays, Table and Record
 unfoldable pub is_keyword_type : ℕ → Bool
@@ -67,7 +65,7 @@ origin_at c version n = cond (ltb version 3) (skipped_each c n 4) c
 
 -- A product is counted to 2^32 at most: "table.dat has no room for as many elements" (`ProductsCount`).
 abbrev pub capped : ℕ → ℕ
-capped n = cond (ltb n 4294967296) n 4294967296
+capped n = min n 4294967296
 
 -- one axis more, "not negative (else 5)", into the product
 unfoldable pub length_into : List ℕ → Value → Value

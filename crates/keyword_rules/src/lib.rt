@@ -4,9 +4,14 @@
 #![tactic(auto)]
 
 use aipsio_rules::Cursor;
-use bytes_at::Refusal;
+
+// The type numbers of a Table and of a Record.
+pub const TABLE: usize = 12;
+
+pub const RECORD: usize = 25;
 
 // The first fields of a field's description: its name, a part of table.dat, and its type number, 0 where the cursor is refused.
+// Type numbers are no enum, here and below: `is_keyword_type` judges every uInt, and C is told them.
 #[derive(Clone, Copy)]
 pub struct FieldHead {
     pub number: usize,
@@ -16,16 +21,15 @@ pub struct FieldHead {
 }
 
 // What a value holds: how many fields, the version of their description, where that and their values stand; no fields, and the cursor
-// past the value, where it is no record. `whole` is a whole TableRecord, which begins at `outer`; `past` is behind what the type asks
-// for in the description.
+// past the value, where it is no record. `outer` is where a whole TableRecord begins, none for all others; `past` is behind what the
+// type asks for in the description.
 #[derive(Clone, Copy)]
 pub struct Held {
     pub count: usize,
     pub version: usize,
     pub desc: Cursor,
     pub values: Cursor,
-    pub whole: bool,
-    pub outer: Cursor,
+    pub outer: Option<Cursor>,
     pub past: Cursor,
 }
 
@@ -36,10 +40,9 @@ pub enum Sought {
     Field(usize),
 }
 
-// A field that is found: its name, a part of table.dat, its type number and the part that holds its value; zeros while none is.
+// A field of a record: its name, a part of table.dat, its type number and the part that holds its value.
 #[derive(Clone, Copy)]
-pub struct Found {
-    pub known: bool,
+pub struct Field {
     pub name: usize,
     pub name_len: usize,
     pub number: usize,
@@ -54,14 +57,14 @@ pub struct Standing {
     pub desc: Cursor,
     pub values: Cursor,
     pub path: Cursor,
-    pub found: Found,
+    pub found: Option<Field>,
 }
 
 // A value's end, and what was found.
 #[derive(Clone, Copy)]
 pub struct Walked {
     pub values: Cursor,
-    pub found: Found,
+    pub found: Option<Field>,
 }
 
 // Whose keywords: the table's, or those of the column at a position.
@@ -71,33 +74,10 @@ pub enum Scope {
     Column(usize),
 }
 
-// What a keyword set answers: why it is refused, or what was found.
+// A keyword: its type number and the part of table.dat that holds its value.
 #[derive(Clone, Copy)]
-pub struct Search {
-    pub refused: Refusal,
-    pub found: Found,
-}
-
-// A keyword: its type number and the part of table.dat that holds its value; or the refusal.
-#[derive(Clone, Copy)]
-pub enum Keyword {
-    At {
-        number: usize,
-        start: usize,
-        len: usize,
-    },
-    Refused(Refusal),
-}
-
-// A field of a record: where its name is, and the keyword; or the refusal.
-#[derive(Clone, Copy)]
-pub enum Field {
-    At {
-        name: usize,
-        name_len: usize,
-        number: usize,
-        start: usize,
-        len: usize,
-    },
-    Refused(Refusal),
+pub struct Keyword {
+    pub number: usize,
+    pub start: usize,
+    pub len: usize,
 }

@@ -2,70 +2,51 @@
 // Array objects, passed over through a cursor.
 #![tactic(auto)]
 
-ghost use Rattle.std.specs.Prelude.{◌≡◌, ◌≤◌, ◌<◌};
-ghost use Rattle.keyword_rules.specs.Values.{is_array_type, element_type, is_keyword_type, is_array_name, array_name_at, array_opened, origin_at, capped, length_into, lengths_at, strings_at, values_at, array_at, scalar_at, plain_at};
+ghost use Rattle.std.specs.Prelude.{◌≡◌};
+ghost use Rattle.keyword_rules.specs.Values.{is_array_type, element_type, is_keyword_type, is_array_name, array_name_at, array_opened, origin_at, length_into, lengths_at, strings_at, values_at, array_at, scalar_at, plain_at};
 
 use aipsio_rules::{Cursor, Text, Value};
-use table_rules::data_type::{DataType, Known};
+use table_rules::data_type::DataType;
 
 // Whether a type number is an array's: 13 and 15 to 24 for types 0 and 2 to 11, then 30 for Int64.
 pub fn is_array_type(number: usize) -> bool
     ensures { result ≡ is_array_type number }
 {
-    if number == 13 {
-        return true;
-    }
-    if number == 30 {
-        return true;
-    }
-    bytes_at::within(number, 15, 24)
+    matches!(number, 13 | 15..=24 | 30)
 }
 
-// The type number of an array's elements.
+// The type number of an array's elements: 0 to 11 for 13 to 24, and Int64's for 30.
+// Type numbers are no enum: `element_type` and `is_array_type` (keyword_rules/specs/Values) judge every number, and C is told them.
 fn element_type(number: usize) -> usize
     ensures { result ≡ element_type number }
 {
     if number == 30 {
-        return 29;
+        29
+    } else {
+        number.saturating_sub(13)
     }
-    bytes_at::minus(number, 13)
 }
 
 // Whether a type number is one that a keyword may have: a scalar's, an array's, Table (12) or Record (25).
+#[tactic(auto, unfolding(keyword_rules::specs::Values::is_keyword_type))]
 pub fn is_keyword_type(number: usize) -> bool
     ensures { result ≡ is_keyword_type number }
 {
-    if number == 12 {
-        return true;
-    }
-    if number == 25 {
-        return true;
-    }
-    if is_array_type(number) {
-        return true;
-    }
-    match DataType::from_number(number) {
-        Known::Of(_) => true,
-        Known::Nothing => false,
-    }
+    number == keyword_rules::TABLE
+        || number == keyword_rules::RECORD
+        || is_array_type(number)
+        || DataType::from_number(number).is_some()
 }
 
 // Whether a String is an Array object's name: Array, or Array with any text in angle brackets.
+#[tactic(auto, unfolding(keyword_rules::specs::Values::is_array_name))]
 fn is_array_name(s: &[u8], t: Text) -> bool
     ensures { result ≡ is_array_name s.now t }
 {
-    // Array
-    if bytes_at::text_at::is_text(s, t.start, t.len, 5, 0x41727261, 0x72726179) {
-        return true;
-    }
-    if t.len < 7 {
-        return false;
-    }
-    // Array<
-    if !bytes_at::text_at::is_text(s, t.start, 6, 6, 0x41727261, 0x7261793c) {
-        return false;
-    }
-    bytes_at::byte(s, bytes_at::minus(t.next.at, 1), true) == 62
+    bytes_at::is_at(s, t.start, t.len, b"Array")
+        || 7 <= t.len
+            && bytes_at::is_at(s, t.start, 6, b"Array<")
+            && bytes_at::uint::<1>(s, t.next.at.saturating_sub(1), true) == b'>' as usize
 }
 
 // An Array object's name, else 2.
@@ -93,54 +74,37 @@ fn skip_origin(c: Cursor, version: usize, n: usize) -> Cursor
     ensures { result ≡ origin_at c version n }
 {
     if version < 3 {
-        return aipsio::skip_each(c, n, 4);
+        aipsio::skip_each(c, n, 4)
+    } else {
+        c
     }
-    c
 }
 
-// A number, 2^32 where it is larger: no table.dat has room for as many elements.
-fn cap(n: usize) -> usize
-    ensures value { result ≡ capped n }
-    ensures bounded { result ≤ 4294967296 }
-{
-    if n < 4294967296 {
-        return n;
-    }
-    4294967296
-}
-
-// One axis more: an Int that is not negative, else 5.
+// One axis more: an Int that is not negative, else 5. The product is counted to 2^32: no table.dat has room for as many elements.
 fn add_length(s: &[u8], product: Value) -> Value
-    requires { product.value ≤ 4294967296 }
-    ensures value { result ≡ length_into s.now product }
-    ensures bounded { result.value ≤ 4294967296 }
+    ensures { result ≡ length_into s.now product }
 {
     let axis = aipsio::numbers::code(s, product.next, 0, 2147483647);
-    let more = cap(product.value * axis.value);
+    let more = product.value.saturating_mul(axis.value).min(4294967296);
     aipsio::settle(more, axis.next)
 }
 
 // The product of n axes, 0 where there are none. Stops at the first refusal: n may be any uInt.
 fn read_lengths(s: &[u8], c: Cursor, n: usize) -> Value
-    ensures value { result ≡ lengths_at s.now c n }
-    ensures bounded { result.value ≤ 4294967296 }
+    ensures { result ≡ lengths_at s.now c n }
 {
     if n == 0 {
         return Value { value: 0, next: c };
     }
     let mut product = Value { value: 1, next: c };
-    let mut i = 0;
-    while i < n {
-        let refused = product.next.refused;
-        if refused != 0 {
-            let next = product.next;
+    for _i in 0..n {
+        if product.next.refused != 0 {
             return Value {
                 value: 0,
-                next: next,
+                ..product
             };
         }
         product = add_length(s, product);
-        i += 1;
     }
     product
 }
@@ -150,33 +114,28 @@ fn skip_strings(s: &[u8], c: Cursor, n: usize) -> Cursor
     ensures { result ≡ strings_at s.now c n }
 {
     let mut d = c;
-    let mut i = 0;
-    while i < n {
-        let refused = d.refused;
-        if refused != 0 {
-            return d;
+    for _i in 0..n {
+        if d.refused != 0 {
+            break;
         }
-        let t = aipsio::strings::string(s, d, 0, 4096);
-        d = t.next;
-        i += 1;
+        d = aipsio::strings::string(s, d, 0, 4096).next;
     }
     d
 }
 
 // n elements of a type. Bools are bits, in whole bytes.
 fn skip_values(s: &[u8], c: Cursor, number: usize, n: usize) -> Cursor
-    requires { n ≤ 4294967296 }
     ensures { result ≡ values_at s.now c number n }
 {
     let each = DataType::bits_of(number);
-    if each == 1 {
-        return aipsio::skip_each(c, (n + 7) / 8, 1);
-    }
     let size = each / 8;
-    if size == 0 {
-        return skip_strings(s, c, n);
+    if each == 1 {
+        aipsio::skip_each(c, n.div_ceil(8), 1)
+    } else if size == 0 {
+        skip_strings(s, c, n)
+    } else {
+        aipsio::skip_each(c, n, size)
     }
-    aipsio::skip_each(c, n, size)
 }
 
 // An Array object whose elements have a type number.
@@ -196,16 +155,14 @@ fn skip_scalar(s: &[u8], c: Cursor, number: usize) -> Cursor
     ensures { result ≡ scalar_at s.now c number }
 {
     let each = DataType::bits_of(number);
-    if each == 1 {
-        let v = aipsio::numbers::flag(s, c);
-        return v.next;
-    }
     let size = each / 8;
-    if size == 0 {
-        let t = aipsio::strings::string(s, c, 0, 4096);
-        return t.next;
+    if each == 1 {
+        aipsio::numbers::flag(s, c).next
+    } else if size == 0 {
+        aipsio::strings::string(s, c, 0, 4096).next
+    } else {
+        aipsio::skip(c, size)
     }
-    aipsio::skip(c, size)
 }
 
 // A value that is no record.
@@ -213,7 +170,8 @@ pub fn skip_plain(s: &[u8], c: Cursor, number: usize) -> Cursor
     ensures { result ≡ plain_at s.now c number }
 {
     if is_array_type(number) {
-        return skip_array(s, c, element_type(number));
+        skip_array(s, c, element_type(number))
+    } else {
+        skip_scalar(s, c, number)
     }
-    skip_scalar(s, c, number)
 }

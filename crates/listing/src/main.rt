@@ -15,53 +15,42 @@ fn print_column<W: Write>(
     out: &mut W,
     s: &[u8],
     position: usize,
-    c: Column,
-    sequence: usize,
+    c: &Column,
+    sequence: u32,
 ) -> io::Result<()> {
-    let t = c.datatype;
-    let name = t.name();
-    let len = t.name_len();
-    let elements = c.elements;
     write!(out, "{position} ")?;
     out.write_all(bytes_at::part(s, c.start, c.len))?;
     out.write_all(b" ")?;
-    out.write_all(bytes_at::part(&name, 0, len))?;
-    writeln!(out, " {elements} {sequence}")
+    out.write_all(c.datatype.bare_name())?;
+    writeln!(out, " {} {sequence}", c.elements)
 }
 
+// No Display of `Refusal`: what a program prints of it is the program's own.
 fn print_refusal<W: Write>(out: &mut W, why: Refusal) -> io::Result<()> {
-    let number = why.number;
-    let byte = why.byte;
-    writeln!(out, "refused {number} {byte}")
+    writeln!(out, "refused {} {}", why.number, why.byte)
 }
 
 // The listing of the table that a table.dat describes.
 fn list<W: Write>(out: &mut W, s: &[u8]) -> io::Result<()> {
     let d = table::describe(s);
-    let refused = d.refused;
-    if refused.number != 0 {
-        return print_refusal(out, refused);
+    if d.refused.number != 0 {
+        return print_refusal(out, d.refused);
     }
-    let columns = d.columns;
-    let bindings = d.bindings;
-    let rows = d.rows;
-    let count = d.column_count;
-    writeln!(out, "rows {rows} columns {count}")?;
-    for i in 0..count {
-        let c = columns[i];
-        let b = bindings[i];
-        print_column(out, s, i, c, b.sequence as usize)?;
+    writeln!(out, "rows {} columns {}", d.rows, d.column_count)?;
+    let columns = &d.columns[..d.column_count];
+    for (i, (column, binding)) in columns.iter().zip(&d.bindings).enumerate() {
+        print_column(out, s, i, column, binding.sequence)?;
     }
     Ok(())
 }
 
-// As much of the input as the buffer holds, which is how many bytes. A turn reads one byte at least.
+// As much of the input as the buffer holds, which is how many bytes. A turn reads one byte at least. No call of std does it: `read_to_end`
+// wants a Vec, and there is no heap; `read_exact` refuses a shorter input.
 fn read_all<R: Read>(input: &mut R, buffer: &mut [u8]) -> io::Result<usize>
     ensures { IfOk result (λ n. n ≤ length buffer.new) }
 {
-    let len = buffer.len();
     let mut n = 0;
-    for _ in 0..len {
+    for _ in 0..buffer.len() {
         let got = input.read(&mut buffer[n..])?;
         if got == 0 {
             break;
@@ -74,11 +63,11 @@ fn read_all<R: Read>(input: &mut R, buffer: &mut [u8]) -> io::Result<usize>
 fn main(rt: HostRuntime) -> io::Result<()> {
     // One byte more than a table.dat may have, so that a longer one is seen to be too long.
     let mut buffer = [0u8; 65537];
-    match read_all(&mut rt.stdin(), &mut buffer) {
-        Ok(n) => match list(&mut rt.stdout(), &buffer[..n]) {
-            Ok(()) => Ok(()),
-            Err(_) => eprintln!(rt; "listing: cannot write standard output"),
-        },
-        Err(_) => eprintln!(rt; "listing: cannot read standard input"),
+    let Ok(n) = read_all(&mut rt.stdin(), &mut buffer) else {
+        return eprintln!(rt; "listing: cannot read standard input");
+    };
+    if list(&mut rt.stdout(), &buffer[..n]).is_err() {
+        return eprintln!(rt; "listing: cannot write standard output");
     }
+    Ok(())
 }

@@ -1,41 +1,30 @@
 -- Two plans agree in every field exactly where they are the same plan.
 -- Assumes nothing.
-use mathlib.Core.Path.{◌≡◌, refl, sym, ◌∙◌}
-use mathlib.Core.Bool.{true, false}
+use mathlib.Core.Path.{◌≡◌, sym, ◌∙◌}
+use mathlib.Core.Bool.{true, false, ◌&&◌}
 use Prim.Native.Nat.{ℕ}
-use lib.Dec.{T, eqb→eq}
-use store.Enc.{and_l, and_r}
+use lib.Dec.{T, eqb}
+use Rattle.std.proofs.Math.Bool.{and_assoc}
 use native.Mathlib.Omega.{arith}
-use borrow.Author.Tests.{eq-eqb}
 use Rattle.bytes_at.proofs.Tests.{is_false}
+use Rattle.std.proofs.lemmas.Bool.Decides.{nat_tests}
 use Rattle.bytes_at.specs.Steps.{◌>>=◌}
 use Rattle.lookup_rules.specs.declared.Plan.{Plan}
 use Rattle.lookup_rules.specs.Questions.{same_plan}
 
-plan_of_lem : {a : Plan} {position sequence datatype elements bits set offset per size : ℕ}
-    → a.position ≡ position → a.sequence ≡ sequence → a.datatype ≡ datatype → a.elements ≡ elements → a.bits ≡ bits
-    → a.set ≡ set → a.offset ≡ offset → a.per ≡ per → a.size ≡ size
-    → a ≡ record { position = position; sequence = sequence; datatype = datatype; elements = elements; bits = bits; set = set; offset = offset; per = per; size = size }
-plan_of_lem e1 e2 e3 e4 e5 e6 e7 e8 e9 = rw (← e1, ← e2, ← e3, ← e4, ← e5, ← e6, ← e7, ← e8, ← e9)
-
 agrees : (a b : Plan) → T (same_plan a b) → a ≡ b
 unfolding same_plan ◌>>=◌
-agrees a b t =
-    plan_of_lem
-    (eqb→eq _ _ (search (and_l, and_r) depth 10))
-    (eqb→eq _ _ (search (and_l, and_r) depth 10))
-    (eqb→eq _ _ (search (and_l, and_r) depth 10))
-    (eqb→eq _ _ (search (and_l, and_r) depth 10))
-    (eqb→eq _ _ (search (and_l, and_r) depth 10))
-    (eqb→eq _ _ (search (and_l, and_r) depth 10))
-    (eqb→eq _ _ (search (and_l, and_r) depth 10))
-    (eqb→eq _ _ (search (and_l, and_r) depth 10))
-    (eqb→eq _ _ (search (and_l, and_r) depth 10))
+agrees a b t = grind (arith, nat_tests)
 
 same_plan_lem : (a : Plan) → same_plan a a ≡ true
 unfolding same_plan ◌>>=◌
-same_plan_lem a =
-    rw (eq-eqb a.position a.position refl, eq-eqb a.sequence a.sequence refl, eq-eqb a.datatype a.datatype refl, eq-eqb a.elements a.elements refl, eq-eqb a.bits a.bits refl, eq-eqb a.set a.set refl, eq-eqb a.offset a.offset refl, eq-eqb a.per a.per refl, eq-eqb a.size a.size refl)
+same_plan_lem a = grind (arith, nat_tests)
+
+-- what the derived `==` computes
+pub same_plan_is : (a b : Plan)
+    → eqb a.position b.position && (eqb a.sequence b.sequence && (eqb a.datatype b.datatype && (eqb a.elements b.elements && (eqb a.bits b.bits && (eqb a.set b.set && (eqb a.offset b.offset && (eqb a.per b.per && eqb a.size b.size))))))) ≡ same_plan a b
+unfolding same_plan ◌>>=◌
+same_plan_is a b = simp and_assoc
 
 -- the plan that would be made now, b, against a
 pub fresh_same : (a b : Plan) → b ≡ a → same_plan a b ≡ true

@@ -1,9 +1,10 @@
--- What the cases of an answer say is what the answer says. Assumes nothing.
+-- What either side of an answer says is what the answer says. Assumes nothing.
 use mathlib.Core.Path.{◌≡◌, refl, sym}
 use mathlib.Core.List.{List}
 use Prim.Native.Nat.{ℕ}
 use native.Mathlib.Decide.{ℕ_discrete}
 use borrow.Author.Tests.{eq-eqb, ne_eqb}
+use Rattle.bytes_at.specs.declared.Refusal.{Refusal}
 use Rattle.bytes_at.proofs.Stages.{Clear}
 use Rattle.standard_rules.specs.Place.{Bits}
 use Rattle.standard_rules.specs.Looks.{Looks}
@@ -12,7 +13,7 @@ use Rattle.lookup_rules.specs.declared.Staged.{Staged}
 use Rattle.lookup_rules.specs.declared.Question.{Question}
 use Rattle.lookup_rules.specs.declared.Answer.{Answer}
 use Rattle.lookup_rules.specs.Questions.{no_plan, no_bits, no_looks, answered, answer_for, answer_of}
-use Rattle.lookup_rules.specs.Answers.{verdict_refusal, verdict_of, planned_refusal, planned_plan, planned_of, placed_refusal, placed_bits, placed_looks, placed_of, in_bucket_refusal, in_bucket_bits, in_bucket_size, placed_in_bucket_of, answer_bits, answer_looks, Says, EveryAnswer}
+use Rattle.lookup_rules.specs.Answers.{unless_refused, refusal_in, read_in, answer_bits, answer_looks, Says, EveryAnswer}
 
 -- "A refusal carries its number and zeros", and beside them its byte; where nothing is refused there is none.
 record Zeros (a : Answer) : Type 0 where
@@ -22,42 +23,20 @@ record Zeros (a : Answer) : Type 0 where
   no_looks_lem : (a.refused.number ≡ 0 → ⊥) → no_looks ≡ answer_looks a
   no_size : (a.refused.number ≡ 0 → ⊥) → 0 ≡ a.size
 
-module _ (a : Answer) (z : Zeros a) where
-  by_verdict : verdict_refusal (verdict_of a) ≡ a.refused
-  unfolding verdict_of
-  by_verdict = elim (ℕ_discrete a.refused.number 0) [ yes e ↦ rw (eq-eqb a.refused.number 0 e) (sym (z.clear e)) | no n ↦ rw (ne_eqb a.refused.number 0 n) ]
+-- where nothing is refused, and where something is
+refusal_said : {A : Type 0} (why : Refusal) (x : A) → Clear why → refusal_in (unless_refused why x) ≡ why
+unfolding unless_refused
+refusal_said why x clear = elim (ℕ_discrete why.number 0) [
+  | yes e ↦ rw (eq-eqb why.number 0 e) (sym (clear e))
+  | no n ↦ rw (ne_eqb why.number 0 n)
+]
 
-  by_planned : planned_refusal (planned_of a) ≡ a.refused
-  unfolding planned_of
-  by_planned = elim (ℕ_discrete a.refused.number 0) [ yes e ↦ rw (eq-eqb a.refused.number 0 e) (sym (z.clear e)) | no n ↦ rw (ne_eqb a.refused.number 0 n) ]
-
-  by_plan_lem : planned_plan (planned_of a) ≡ a.plan
-  unfolding planned_of
-  by_plan_lem = elim (ℕ_discrete a.refused.number 0) [ yes e ↦ rw (eq-eqb a.refused.number 0 e) | no n ↦ rw (ne_eqb a.refused.number 0 n) (z.no_plan_lem n) ]
-
-  by_placed : placed_refusal (placed_of a) ≡ a.refused
-  unfolding placed_of
-  by_placed = elim (ℕ_discrete a.refused.number 0) [ yes e ↦ rw (eq-eqb a.refused.number 0 e) (sym (z.clear e)) | no n ↦ rw (ne_eqb a.refused.number 0 n) ]
-
-  by_bits : placed_bits (placed_of a) ≡ answer_bits a
-  unfolding placed_of
-  by_bits = elim (ℕ_discrete a.refused.number 0) [ yes e ↦ rw (eq-eqb a.refused.number 0 e) | no n ↦ rw (ne_eqb a.refused.number 0 n) (z.no_bits_lem n) ]
-
-  by_looks : placed_looks (placed_of a) ≡ answer_looks a
-  unfolding placed_of
-  by_looks = elim (ℕ_discrete a.refused.number 0) [ yes e ↦ rw (eq-eqb a.refused.number 0 e) | no n ↦ rw (ne_eqb a.refused.number 0 n) (z.no_looks_lem n) ]
-
-  by_in_bucket : in_bucket_refusal (placed_in_bucket_of a) ≡ a.refused
-  unfolding placed_in_bucket_of
-  by_in_bucket = elim (ℕ_discrete a.refused.number 0) [ yes e ↦ rw (eq-eqb a.refused.number 0 e) (sym (z.clear e)) | no n ↦ rw (ne_eqb a.refused.number 0 n) ]
-
-  by_in_bucket_bits : in_bucket_bits (placed_in_bucket_of a) ≡ answer_bits a
-  unfolding placed_in_bucket_of
-  by_in_bucket_bits = elim (ℕ_discrete a.refused.number 0) [ yes e ↦ rw (eq-eqb a.refused.number 0 e) | no n ↦ rw (ne_eqb a.refused.number 0 n) (z.no_bits_lem n) ]
-
-  by_in_bucket_size : in_bucket_size (placed_in_bucket_of a) ≡ a.size
-  unfolding placed_in_bucket_of
-  by_in_bucket_size = elim (ℕ_discrete a.refused.number 0) [ yes e ↦ rw (eq-eqb a.refused.number 0 e) | no n ↦ rw (ne_eqb a.refused.number 0 n) (z.no_size n) ]
+value_said : {A B : Type 0} (why : Refusal) (x : A) (f : A → B) (z : B) → ((why.number ≡ 0 → ⊥) → z ≡ f x) → read_in f z (unless_refused why x) ≡ f x
+unfolding unless_refused
+value_said why x f z zero = elim (ℕ_discrete why.number 0) [
+  | yes e ↦ rw (eq-eqb why.number 0 e)
+  | no n ↦ rw (ne_eqb why.number 0 n) (zero n)
+]
 
 answered_number : (r : Request) (s : Staged) (b : Bits) (n : Looks) → ((answered r s b n).refused.number ≡ 0 → ⊥) → s.refused.number ≡ 0 → ⊥
 unfolding answered
@@ -78,15 +57,15 @@ zeros r s b n = record {
 
 said : (a : Answer) → Zeros a → Says a
 said a z = record {
-  verdict = by_verdict a z;
-  planned = by_planned a z;
-  plan = by_plan_lem a z;
-  placed = by_placed a z;
-  bits = by_bits a z;
-  looks = by_looks a z;
-  in_bucket = by_in_bucket a z;
-  in_bucket_bits = by_in_bucket_bits a z;
-  in_bucket_size = by_in_bucket_size a z;
+  verdict = refusal_said _ _ z.clear;
+  planned = refusal_said _ _ z.clear;
+  plan = value_said _ _ _ _ z.no_plan_lem;
+  placed = refusal_said _ _ z.clear;
+  bits = value_said _ _ _ _ z.no_bits_lem;
+  looks = value_said _ _ _ _ z.no_looks_lem;
+  in_bucket = refusal_said _ _ z.clear;
+  in_bucket_bits = value_said _ _ _ _ z.no_bits_lem;
+  in_bucket_size = value_said _ _ _ _ z.no_size;
 }
 
 pub refused_looks : (t f : List ℕ) (q : Question) (l : ℕ) → ((answer_of t f q l).refused.number ≡ 0 → ⊥) → answer_looks (answer_of t f q l) ≡ no_looks
@@ -97,6 +76,9 @@ pub refused_bits : (t f : List ℕ) (q : Question) (l : ℕ) → ((answer_of t f
 unfolding answer_for
 refused_bits t f q l h = sym ((zeros _ _ _ _).no_bits_lem h)
 
-pub every_answer : EveryAnswer
+pub says_of : (t f : List ℕ) (r : Request) (l : ℕ) {a : Answer} → a ≡ answer_for t f r l → Says a
 unfolding answer_for
-every_answer t f q l = said _ (zeros _ _ _ _)
+says_of t f r l e = rw e (said _ (zeros _ _ _ _))
+
+pub every_answer : EveryAnswer
+every_answer t f q l = says_of _ _ _ _ refl

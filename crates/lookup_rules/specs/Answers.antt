@@ -1,6 +1,6 @@
--- RULES.md 7.7: each answer in the type of its question, and what each case of that type says: the refusal, and the
+-- RULES.md 7.7: each answer in the type of its question, and what that says on either side: the refusal, and the
 -- values; "A refusal carries its number and zeros", and beside them its byte.
-use Rattle.std.specs.Prelude.{ℕ, List, cond, eqb, ◌≡◌}
+use Rattle.std.specs.Prelude.{ℕ, List, cond, eqb, ◌≡◌, ⊤, Result, Ok, Err}
 use Rattle.bytes_at.specs.declared.Refusal.{Refusal}
 use Rattle.bytes_at.specs.Stages.{no_refusal, OthersCarry0}
 use Rattle.standard_rules.specs.Place.{Bits}
@@ -8,68 +8,70 @@ use Rattle.standard_rules.specs.Looks.{Looks}
 use Rattle.lookup_rules.specs.declared.Plan.{Plan}
 use Rattle.lookup_rules.specs.declared.Question.{Question}
 use Rattle.lookup_rules.specs.declared.Answer.{Answer}
-use Rattle.lookup_rules.specs.declared.Verdict.{Verdict}
-use Rattle.lookup_rules.specs.declared.Verdict.TheVariants.{Accepted, Refused as NotAccepted}
-use Rattle.lookup_rules.specs.declared.Planned.{Planned}
-use Rattle.lookup_rules.specs.declared.Planned.TheVariants.{Ready, Refused as NotPlanned}
 use Rattle.lookup_rules.specs.declared.Placed.{Placed}
-use Rattle.lookup_rules.specs.declared.Placed.TheVariants.{At, Refused as NotPlaced}
 use Rattle.lookup_rules.specs.declared.PlacedInBucket.{PlacedInBucket}
-use Rattle.lookup_rules.specs.declared.PlacedInBucket.TheVariants.{At as InBucket, Refused as NotInBucket}
 use Rattle.lookup_rules.specs.Questions.{no_plan, no_bits, no_looks, answer_of}
 
--- File check
-unfoldable pub verdict_of : Answer → Verdict
-verdict_of a = cond (eqb a.refused.number 0) Accepted (NotAccepted a.refused)
+-- a value, unless there is a refusal
+unfoldable pub unless_refused : {A : Type 0} → Refusal → A → Result A Refusal
+unless_refused why x = cond (eqb why.number 0) (Ok x) (Err why)
 
-abbrev pub verdict_refusal : Verdict → Refusal
-verdict_refusal Accepted = no_refusal
-verdict_refusal (NotAccepted why) = why
+-- the refusal, none beside a value
+abbrev pub refusal_in : {A : Type 0} → Result A Refusal → Refusal
+refusal_in (Ok x) = no_refusal
+refusal_in (Err why) = why
+
+-- what is read of the value, and z beside a refusal
+abbrev pub read_in : {A B : Type 0} → (A → B) → B → Result A Refusal → B
+read_in f z (Ok x) = f x
+read_in f z (Err why) = z
+
+-- File check
+abbrev pub verdict_of : Answer → Result ⊤ Refusal
+verdict_of a = unless_refused a.refused tt
+
+abbrev pub verdict_refusal : Result ⊤ Refusal → Refusal
+verdict_refusal = refusal_in
 
 -- Plan
-unfoldable pub planned_of : Answer → Planned
-planned_of a = cond (eqb a.refused.number 0) (Ready a.plan) (NotPlanned a.refused)
+abbrev pub planned_of : Answer → Result Plan Refusal
+planned_of a = unless_refused a.refused a.plan
 
-abbrev pub planned_refusal : Planned → Refusal
-planned_refusal (Ready p) = no_refusal
-planned_refusal (NotPlanned why) = why
+abbrev pub planned_refusal : Result Plan Refusal → Refusal
+planned_refusal = refusal_in
 
-abbrev pub planned_plan : Planned → Plan
-planned_plan (Ready p) = p
-planned_plan (NotPlanned why) = no_plan
+abbrev pub planned_plan : Result Plan Refusal → Plan
+planned_plan = read_in (λ (p : Plan). p) no_plan
 
 -- Place: "first bit and bit count, counted from the file's start"; "how many last-row entries the final search looked at", and how
 -- many the column's set has
-unfoldable pub placed_of : Answer → Placed
-placed_of a = cond (eqb a.refused.number 0) (At a.first a.count a.looks a.entries) (NotPlaced a.refused)
+abbrev pub placed_of : Answer → Result Placed Refusal
+placed_of a = unless_refused a.refused (record { first = a.first; count = a.count; looks = a.looks; entries = a.entries })
 
-abbrev pub placed_refusal : Placed → Refusal
-placed_refusal (At first count looks entries) = no_refusal
-placed_refusal (NotPlaced why) = why
+abbrev pub placed_refusal : Result Placed Refusal → Refusal
+placed_refusal = refusal_in
 
-abbrev pub placed_bits : Placed → Bits
-placed_bits (At first count looks entries) = record { first = first; count = count }
-placed_bits (NotPlaced why) = no_bits
+abbrev pub bits_of : Placed → Bits
+bits_of p = record { first = p.first; count = p.count }
 
-abbrev pub placed_looks : Placed → Looks
-placed_looks (At first count looks entries) = record { looks = looks; entries = entries }
-placed_looks (NotPlaced why) = no_looks
+abbrev pub placed_bits : Result Placed Refusal → Bits
+placed_bits = read_in bits_of no_bits
+
+abbrev pub placed_looks : Result Placed Refusal → Looks
+placed_looks = read_in (λ (p : Placed). record { looks = p.looks; entries = p.entries }) no_looks
 
 -- Place in one bucket: "the row's bucket gives the place"
-unfoldable pub placed_in_bucket_of : Answer → PlacedInBucket
-placed_in_bucket_of a = cond (eqb a.refused.number 0) (InBucket a.first a.count a.size) (NotInBucket a.refused)
+abbrev pub placed_in_bucket_of : Answer → Result PlacedInBucket Refusal
+placed_in_bucket_of a = unless_refused a.refused (record { first = a.first; count = a.count; size = a.size })
 
-abbrev pub in_bucket_refusal : PlacedInBucket → Refusal
-in_bucket_refusal (InBucket first count size) = no_refusal
-in_bucket_refusal (NotInBucket why) = why
+abbrev pub in_bucket_refusal : Result PlacedInBucket Refusal → Refusal
+in_bucket_refusal = refusal_in
 
-abbrev pub in_bucket_bits : PlacedInBucket → Bits
-in_bucket_bits (InBucket first count size) = record { first = first; count = count }
-in_bucket_bits (NotInBucket why) = no_bits
+abbrev pub in_bucket_bits : Result PlacedInBucket Refusal → Bits
+in_bucket_bits = read_in (λ (p : PlacedInBucket). record { first = p.first; count = p.count }) no_bits
 
-abbrev pub in_bucket_size : PlacedInBucket → ℕ
-in_bucket_size (InBucket first count size) = size
-in_bucket_size (NotInBucket why) = 0
+abbrev pub in_bucket_size : Result PlacedInBucket Refusal → ℕ
+in_bucket_size = read_in (λ (p : PlacedInBucket). p.size) 0
 
 -- the bits, and the looks, of an answer
 abbrev pub answer_bits : Answer → Bits
@@ -78,7 +80,7 @@ answer_bits a = record { first = a.first; count = a.count }
 abbrev pub answer_looks : Answer → Looks
 answer_looks a = record { looks = a.looks; entries = a.entries }
 
--- What the cases say is what the answer says, of every question.
+-- What either side says is what the answer says, of every question.
 pub record Says (a : Answer) : Type 0 where
   pub verdict : verdict_refusal (verdict_of a) ≡ a.refused
   pub planned : planned_refusal (planned_of a) ≡ a.refused

@@ -1,3 +1,2 @@
 -- Laws that the proofs cite.
 pub mod Laws
-pub mod Gathering

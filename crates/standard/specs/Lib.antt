@@ -1,5 +1,4 @@
 -- Definitions that only serve the code of this crate.
 pub mod Columns
-pub mod Sets
 pub mod Check
 pub mod Bit

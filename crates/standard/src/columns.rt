@@ -1,89 +1,77 @@
 // The columns of a StandardStMan file in its map (RULES.md 5.6): the sets that they name, how many each
-// set has, and their extents in the bucket. Columns are given by position: whether each is kept in the file, its set, its offset
-// and the bits of a cell; sets by their rows per bucket and their column counts. Lists of numbers can be lent, a table's
-// description can not.
-ghost use Rattle.std.specs.Prelude.{◌≡◌, ℕ, ◌≤◌, ◌<◌, length, get_or, List, ◌&&◌, leb, ltb};
-ghost use Rattle.standard.specs.Columns.{one_more, Counted, counts_fit, columns_by, columns_test};
-ghost use Rattle.standard_rules.specs.Map.{MapColumn};
+// set has, and their extents in the bucket.
+ghost use Rattle.std.specs.Prelude.{◌≡◌, ℕ, ◌≤◌, ◌<◌, length, get_or, List, ◌&&◌, ltb};
+ghost use Rattle.standard.specs.Columns.{one_more, Counted, counts_fit, per_of, extent_by, columns_test};
+ghost use Rattle.standard_rules.specs.Map.{MapColumn, map_column, columns_of, in_bucket};
+ghost use Rattle.standard_rules.specs.Index.{no_set};
 ghost use Rattle.bytes_at.specs.Lists.{◌⇒◌};
 
-// One more at place k of a list of counts, where the column is kept.
+use standard_rules::{Extent, Set};
+use table_rules::{Binding, Column, Description};
+
+// One more at place k of a list of counts, where the column is kept; `one_more` (specs/Columns) takes the flag.
+// The counts are lent as the array that they are, here and below: a slice would need its 16 in a clause of its own.
 fn one_more(counts: &mut [usize; 16], kept: bool, k: usize)
     requires { (length counts.old ≡ 16) × ((j : ℕ) → get_or counts.old j 0 ≤ 64) }
     ensures { counts.new ≡ one_more kept k counts.old }
 {
-    if kept {
-        if k < 16 {
-            counts[k] = counts[k] + 1;
-        }
+    if kept && k < 16 {
+        counts[k] += 1;
     }
 }
 
-// Whether the column count of each of m sets is the one counted, whatever columns are so counted.
-fn counts_fit(counts: &[usize; 16], columns: &[usize; 16], m: usize) -> bool
-    requires { m ≤ 16 }
-    ensures { (l : List MapColumn) → Counted counts.now l → result ≡ counts_fit l columns.now m 0 }
+// Whether the column count of each set is the one counted, whatever columns are so counted.
+fn counts_fit(counts: &[usize; 16], sets: &[Set]) -> bool
+    requires { length sets.now ≤ 16 }
+    ensures { (l : List MapColumn) → Counted counts.now l → result ≡ counts_fit l 0 sets.now }
 {
-    let mut k = 0;
-    while k < m {
-        if counts[k] != columns[k] {
-            return false;
-        }
-        k += 1;
+    counts.iter().zip(sets.iter()).all(|(n, s)| *n == s.columns)
+}
+
+// The bytes that a column takes in the buckets of its set, in the file of the manager with the sequence number.
+fn extent_of(column: Column, binding: Binding, sequence: usize, sets: &[Set]) -> Extent
+    requires { (k : ℕ) → k < length sets.now → (get_or sets.now k no_set).per ≤ 8388608 }
+    ensures { result ≡ extent_by (per_of sets.now) (map_column sequence column binding) }
+{
+    let set = binding.set;
+    let start = binding.offset as usize;
+    let per = if set < sets.len() { sets[set].per } else { 0 };
+    Extent {
+        kept: binding.sequence as usize == sequence,
+        set,
+        start,
+        end: crate::extents::extent_end(start, per, column.bits as usize),
     }
-    true
 }
 
 // Whether a column is kept elsewhere, or names one of m sets and ends within the bucket.
-fn column_fits(kept: bool, set: usize, end: usize, m: usize, size: usize) -> bool
-    ensures { result ≡ ((kept ⇒ ltb set m) && (kept ⇒ leb end size)) }
+#[tactic(auto, unfolding(standard_rules::specs::Map::in_bucket))]
+fn extent_fits(x: Extent, m: usize, size: usize) -> bool
+    ensures { result ≡ ((x.kept ⇒ ltb x.set m) && in_bucket size x) }
 {
-    if kept {
-        if set < m {
-            return end <= size;
-        }
-        return false;
-    }
-    true
+    !x.kept || x.set < m && x.end <= size
 }
 
-// Whether the columns of a file are right: every kept column names one of m sets and lies in the bucket, the column count of each
+// Whether the columns of a file are right: every kept column names one of the sets and lies in the bucket, the column count of each
 // set agrees with DMInfo, and no two extents of one set meet.
-pub fn columns_fit(
-    kept: &[bool; 64],
-    sets: &[usize; 64],
-    offsets: &[usize; 64],
-    bits: &[usize; 64],
-    n: usize,
-    pers: &[usize; 16],
-    columns: &[usize; 16],
-    m: usize,
-    size: usize,
-) -> bool
-    requires n_bound { (n ≤ 64) × (m ≤ 16) × ((k : ℕ) → get_or pers.now k 0 ≤ 8388608) }
-    requires by_index { ((i : ℕ) → i < n → get_or offsets.now i 0 < 4294967296) × ((i : ℕ) → i < n → get_or bits.now i 0 < 4294967296) }
-    ensures { result ≡ columns_test (columns_by kept.now sets.now offsets.now bits.now n 0) pers.now columns.now m size }
+pub fn columns_fit(d: &Description, sequence: usize, sets: &[Set], size: usize) -> bool
+    requires { (d.now.column_count ≤ 64) × (length sets.now ≤ 16) × ((k : ℕ) → k < length sets.now → (get_or sets.now k no_set).per ≤ 8388608) }
+    ensures { result ≡ columns_test (columns_of d.now sequence) sets.now size }
 {
+    let n = d.column_count;
     let mut counts = [0usize; 16];
-    let mut fit = true;
-    let mut ends = [0usize; 64];
-    let mut i = 0;
-    while i < n {
-        let here = kept[i];
-        let set = sets[i];
-        let per = bytes_at::number_at(pers, set);
-        let end = crate::extents::extent_end(offsets[i], per, bits[i]);
-        let ok = column_fits(here, set, end, m, size);
-        ends[i] = end;
-        fit = bytes_at::both(fit, ok);
-        one_more(&mut counts, here, set);
-        i += 1;
+    let mut extents = [Extent::default(); 64];
+    // By index: columns and bindings are two lists of the description, and extent i goes to its place.
+    for i in 0..n {
+        let x = extent_of(d.columns[i], d.bindings[i], sequence, sets);
+        if !extent_fits(x, sets.len(), size) {
+            return false;
+        }
+        extents[i] = x;
+        one_more(&mut counts, x.kept, x.set);
     }
-    if !fit {
+    if !counts_fit(&counts, sets) {
         return false;
     }
-    if !counts_fit(&counts, columns, m) {
-        return false;
-    }
-    crate::extents::all_apart(kept, sets, offsets, &ends, n)
+    crate::extents::all_apart(&extents[..n])
 }

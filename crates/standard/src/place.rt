@@ -5,22 +5,13 @@ ghost use Rattle.standard.specs.Bit.{local_by, located_by, no_cell};
 
 use crate::Located;
 use bytes_at::Width;
+use standard_index::rows::LastRows;
 use standard_rules::Set;
-
-// No cell.
-pub fn no_cell() -> Located
-    ensures { result ≡ no_cell }
-{
-    Located {
-        first: 0,
-        looks: 0,
-        entries: 0,
-    }
-}
 
 // A row's cell in the column at the offset, whose cells have so many bits. The set's lists stand in the text, in the table's
 // endianness. A set without entries has no cells, and gives zeros. No sum wraps, however large the row is, since its number within
 // its entry is below the rows per bucket.
+// Seven parameters, and three clauses on them: docs/EVIDENCE.md names both, and `located_by` takes the same.
 pub fn locate(
     text: &[u8],
     big: bool,
@@ -35,22 +26,24 @@ pub fn locate(
     requires row_bound { 0 < s.entries → local_by big text.now s row < s.per }
     ensures { (0 < s.entries → result ≡ located_by big text.now s size offset bits row) × (s.entries ≡ 0 → result ≡ no_cell) }
 {
-    let n = s.entries;
-    let lasts = s.lasts;
-    let buckets = s.buckets;
-    if n == 0 {
-        return no_cell();
+    if s.entries == 0 {
+        return Located::default();
     }
-    let width = Width::of_int(s.wide);
-    let e = standard_index::rows::find_entry(text, lasts, n, row, big, width);
-    let at = e.at;
-    let b = bytes_at::word(text, buckets + at * 4, big);
-    let r = standard_index::rows::local_row(text, lasts, at, row, big, width);
+    // Written out here and in `sets_fit`: a builder would ask the clause `inside` again, and be these five fields.
+    let lasts = LastRows {
+        text,
+        at: s.lasts,
+        n: s.entries,
+        big,
+        width: Width::of_int(s.wide),
+    };
+    let e = lasts.find_entry(row);
+    let b = bytes_at::uint::<4>(text, s.buckets + e.at * 4, big);
+    let r = lasts.local_row(e.at, row);
     let first = 8 * (512 + b * size + offset) + r * bits;
-    let looks = e.looks;
     Located {
         first,
-        looks,
-        entries: n,
+        looks: e.looks,
+        entries: s.entries,
     }
 }

@@ -7,13 +7,13 @@ use aipsio_rules::Cursor;
 use bytes_at::{Refusal, Width};
 use standard_rules::{BucketFields, Header, IndexFields};
 
-// From the object's header to the first free bucket.
+// From the object's header to the first free bucket. IncrementalStMan's header has another name, other versions and one field more: one
+// function for both would switch on that field.
 fn read_bucket_fields(s: &[u8], c: Cursor) -> BucketFields
     ensures value { result ≡ bucket_fields_at s.now c }
     ensures words { (result.free_count < 4294967296) × (result.first_free < 4294967296) }
 {
-    // StandardStMan
-    let o = aipsio::objects::open(s, c, 13, 0x5374616e64617264, 0x61726453744d616e, 3, 4);
+    let o = aipsio::objects::open(s, c, b"StandardStMan", 3, 4);
     let flag = aipsio::numbers::flag(s, o.next);
     let same = buckets::file::same_endian(flag.value, c.big);
     let d = aipsio::judge(flag.next, o.next.at, same, 6);
@@ -22,13 +22,12 @@ fn read_bucket_fields(s: &[u8], c: Cursor) -> BucketFields
     let cache = aipsio::numbers::uint(s, count.next);
     let free = aipsio::numbers::uint(s, cache.next);
     let first = aipsio::numbers::uint(s, free.next);
-    let next = first.next;
     BucketFields {
         size: size.value,
         count: count.value,
         free_count: free.value,
         first_free: first.value,
-        next: next,
+        next: first.next,
     }
 }
 
@@ -36,10 +35,7 @@ fn read_bucket_fields(s: &[u8], c: Cursor) -> BucketFields
 fn offset_fits(offset: usize) -> bool
     ensures { result ≡ offset_fits offset }
 {
-    if offset == 0 {
-        return true;
-    }
-    8 <= offset
+    offset == 0 || 8 <= offset
 }
 
 // From the number of index buckets to the number of indices.
@@ -55,23 +51,22 @@ fn read_index_fields(s: &[u8], c: Cursor) -> IndexFields
     let heap = aipsio::numbers::uint(s, d);
     let len = aipsio::numbers::number(s, heap.next, Width::Four, 1, 65536);
     let sets = aipsio::numbers::number(s, len.next, Width::Four, 1, 16);
-    let next = sets.next;
     IndexFields {
         index_count: count.value,
         first_index: first.value,
         offset: offset.value,
         length: len.value,
         sets: sets.value,
-        next: next,
+        next: sets.next,
     }
 }
 
-// The header, or zeros and the refusal where the cursor is refused.
+// The header, or zeros and the refusal where the cursor is refused. No other place needs the zeros, so that they have no name.
+#[tactic(auto, unfolding(standard_rules::specs::Header::headed))]
 fn answer_header(c: Cursor, b: BucketFields, i: IndexFields) -> Header
     ensures { result ≡ headed c b i }
 {
-    let refused = c.refused;
-    if refused != 0 {
+    if c.refused != 0 {
         return Header {
             size: 0,
             count: 0,
@@ -109,7 +104,7 @@ pub fn read_header(f: &[u8], big: bool) -> Header
     let start = Cursor {
         at: 0,
         end: room,
-        big: big,
+        big,
         refused: 0,
     };
     let m = aipsio::numbers::mark(f, start);

@@ -12,8 +12,7 @@ fn read_set(s: &[u8], c: Cursor) -> SetRead
     ensures { result ≡ ssm_index_at s.now c }
 {
     let m = aipsio::numbers::mark(s, c);
-    // SSMIndex
-    let o = aipsio::objects::open(s, m, 8, 0x53534d496e646578, 0x53534d496e646578, 1, 2);
+    let o = aipsio::objects::open(s, m, b"SSMIndex", 1, 2);
     let entries = aipsio::numbers::uint(s, o.next);
     let per = aipsio::numbers::number(s, entries.next, Width::Four, 1, 8388608);
     let columns = aipsio::numbers::uint(s, per.next);
@@ -28,65 +27,46 @@ fn read_set(s: &[u8], c: Cursor) -> SetRead
             entries: entries.value,
             per: per.value,
             columns: columns.value,
-            wide: wide,
+            wide,
             lasts: lasts.value,
             buckets: buckets.value,
         },
-        next: next,
-    }
-}
-
-// No set: zeros.
-pub fn no_set() -> Set
-    ensures { result ≡ no_set }
-{
-    Set {
-        entries: 0,
-        per: 0,
-        columns: 0,
-        wide: false,
-        lasts: 0,
-        buckets: 0,
+        next,
     }
 }
 
 // n sets from the cursor.
+// `n ≤ 16`, here and below, is the bound of a count alone: a type for it would say no more than the clause.
 fn read_sets(s: &[u8], c: Cursor, n: usize) -> Sets
     requires { n ≤ 16 }
     ensures { result ≡ sets_at s.now c n }
 {
-    let none = no_set();
-    let mut sets = [none; 16];
+    let mut sets = [Set::default(); 16];
     let mut next = c;
-    let mut i = 0;
-    while i < n {
+    // By index, as `set_into` has it: set i is put at its place.
+    for i in 0..n {
         let read = read_set(s, next);
-        let one = read.set;
-        sets[i] = one;
+        sets[i] = read.set;
         next = read.next;
-        i += 1;
     }
-    Sets {
-        sets: sets,
-        next: next,
-    }
+    Sets { sets, next }
 }
 
 // The sets, or zeros and the refusal where the cursor is refused.
+// No other place needs the zeros, so that they have no name.
+#[tactic(auto, unfolding(standard_rules::specs::Index::indexed))]
 fn answer_index(c: Cursor, all: Sets) -> Index
     ensures { result ≡ indexed c all }
 {
-    let refused = c.refused;
-    if refused != 0 {
-        let none = no_set();
+    if c.refused != 0 {
         return Index {
-            sets: [none; 16],
+            sets: [Set::default(); 16],
             refused: aipsio::refusal(c),
         };
     }
-    let list = all.sets;
+    let sets = all.sets;
     Index {
-        sets: list,
+        sets,
         refused: Refusal { number: 0, byte: 0 },
     }
 }
@@ -100,7 +80,7 @@ pub fn read_index(text: &[u8], big: bool, n: usize) -> Index
     let start = Cursor {
         at: 0,
         end: text.len(),
-        big: big,
+        big,
         refused: 0,
     };
     let all = read_sets(text, start, n);

@@ -12,7 +12,8 @@ use Rattle.bytes_at.specs.Lists.{all, all_from, pairs, all_apart, unlike}
 use Rattle.bytes_at.proofs.Tests.{all_yes, all_from_yes, pairs_yes, or_yes, then_yes, both, unlike_yes}
 use Rattle.bytes_at.proofs.MoreTests.{all_append, across}
 use Rattle.bytes_at.proofs.Apart.{apart_yes, apart_joined, apart_across}
-use Rattle.standard_rules.specs.Map.{Map, no_map_set, no_map_column, set_at, column_at, covers, set_fits, count_fits, set_known, Extent, extent_of, extents, in_bucket, clear, Meet, data_of, used, fits, bucket_of, MapAccepted, MapExactly}
+use Rattle.standard_rules.specs.declared.Extent.{Extent}
+use Rattle.standard_rules.specs.Map.{Map, no_map_set, no_map_column, set_at, column_at, covers, set_fits, count_fits, set_known, extent_of, extents, in_bucket, clear, Meet, data_of, used, fits, bucket_of, MapAccepted, MapExactly}
 use Rattle.standard_rules.proofs.Entries.{Spans, covers_yes}
 use Rattle.standard_rules.proofs.DataBuckets.{data_yes, data_apart_yes}
 use Rattle.standard_rules.proofs.Accepting.{extent_at_lem, extents_length, accepted}

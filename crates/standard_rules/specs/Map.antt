@@ -2,6 +2,7 @@
 use Rattle.std.specs.Prelude.{ℕ, ◌<◌, zero, suc, ◌+◌, ◌/◌, ◌*◌, ◌≤◌, List, [], ◌∷◌, map, ◌++◌, Bool, false, ◌&&◌, cond, ◌||◌, get_or, length, T, eqb, leb, ltb, ◌≡◌, ◌↔◌}
 use Rattle.bytes_at.specs.Number.{int_bytes, numbers_at}
 use Rattle.standard_rules.specs.declared.Set.{Set}
+use Rattle.standard_rules.specs.declared.Extent.{Extent}
 use Rattle.standard_rules.specs.Index.{no_set, links, index_at, index_text_of}
 use Rattle.table_rules.specs.declared.Column.{Column}
 use Rattle.table_rules.specs.declared.Binding.{Binding}
@@ -139,13 +140,6 @@ set_known indices c = c.kept ⇒ ltb c.set indices
 
 abbrev pub ceil8 : ℕ → ℕ
 ceil8 bits = (bits + 7) / 8
-
--- The bytes that a kept column takes in the buckets of its set, from `start` up to `end`.
-pub record Extent : Type 0 where
-  pub kept : Bool
-  pub set : ℕ
-  pub start : ℕ
-  pub end : ℕ
 
 -- "offset + ceiling(rows per bucket x cell bits / 8)"
 abbrev pub extent_end : ℕ → ℕ → ℕ → ℕ

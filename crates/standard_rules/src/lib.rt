@@ -6,6 +6,7 @@ use aipsio_rules::Cursor;
 use bytes_at::Refusal;
 
 // The header's fields on buckets, and the cursor past them.
+// IncrementalStMan's `HeaderFields` is another record: each manager's definitions give their own, in the note's order of its header.
 #[derive(Clone, Copy)]
 pub struct BucketFields {
     pub size: usize,
@@ -27,6 +28,7 @@ pub struct IndexFields {
 }
 
 // The numbers of a header; zeros and the refusal where it is refused. `sets` is the number of indices.
+// No Err: `headed` has the zeros, and `HeaderBounds` holds of refused headers too.
 #[derive(Clone, Copy)]
 pub struct Header {
     pub size: usize,
@@ -43,7 +45,7 @@ pub struct Header {
 
 // A set of columns: its numbers of entries, of rows in a bucket and of columns; whether its last rows are Int64; and where in the
 // text its last rows and its bucket numbers start.
-#[derive(Clone, Copy)]
+#[derive(Clone, Copy, Default)]
 pub struct Set {
     pub entries: usize,
     pub per: usize,
@@ -61,6 +63,7 @@ pub struct SetRead {
 }
 
 // Sets in stored order, and the cursor past them.
+// A list of fixed length, since there is no heap.
 #[derive(Clone, Copy)]
 pub struct Sets {
     pub sets: [Set; 16],
@@ -68,14 +71,26 @@ pub struct Sets {
 }
 
 // The sets of an index text; zeros and the refusal where it is refused.
+// No Err: `indexed` has the zeros. A list of fixed length, since there is no heap.
 #[derive(Clone, Copy)]
 pub struct Index {
     pub sets: [Set; 16],
     pub refused: Refusal,
 }
 
+// The bytes that a kept column takes in the buckets of its set, from `start` up to `end`.
+// A flag, and no Option: `in_bucket` and `clear` (specs/Map) take every column's extent, and ask it of each.
+#[derive(Clone, Copy, Default)]
+pub struct Extent {
+    pub kept: bool,
+    pub set: usize,
+    pub start: usize,
+    pub end: usize,
+}
+
 // What the check of a file tells: the bucket size, and where the set that was asked for stands in the index text; zeros and the
 // refusal where it is refused.
+// No Err: `checked_as` has the zeros, and `standard::check` promises it of every file.
 #[derive(Clone, Copy)]
 pub struct Checked {
     pub refused: Refusal,

@@ -21,12 +21,7 @@ pub fn skip_notes(s: &[u8], c: Cursor) -> Cursor
 fn options_fit(array: bool, options: usize) -> bool
     ensures { result ≡ options_fit array options }
 {
-    if array {
-        if options % 2 == 1 {
-            return 4 <= options;
-        }
-    }
-    true
+    !array || options % 2 != 1 || 4 <= options
 }
 
 // Options 0 to 7, else 5.
@@ -44,13 +39,7 @@ fn read_options(s: &[u8], c: Cursor, array: bool) -> Value
 fn dimensions_fit(array: bool, dimensions: usize) -> bool
     ensures { result ≡ dimensions_fit array dimensions }
 {
-    if array {
-        return true;
-    }
-    if dimensions == 0 {
-        return true;
-    }
-    dimensions == 4294967295
+    array || dimensions == 0 || dimensions == 4294967295
 }
 
 // The dimensionality, else 5.
@@ -64,18 +53,18 @@ fn read_dimensions(s: &[u8], c: Cursor, array: bool) -> Value
 }
 
 // The element count, and the cursor past the IPosition, which an array always has and a scalar never.
+#[tactic(auto, unfolding(table_rules::specs::ColumnDesc::elements_at))]
 fn read_elements(s: &[u8], c: Cursor, array: bool, options: usize, dimensions: usize) -> Value
     ensures value { result ≡ elements_at s.now c array options dimensions }
     ensures bounded { result.value ≤ 1048576 }
 {
-    if array {
-        if 4 <= options {
-            return aipsio::objects::shape(s, c, dimensions);
-        }
-        let d = aipsio::objects::iposition(s, c);
-        return aipsio::settle(0, d);
+    if !array {
+        aipsio::settle(1, c)
+    } else if 4 <= options {
+        aipsio::objects::shape(s, c, dimensions)
+    } else {
+        aipsio::settle(0, aipsio::objects::iposition(s, c))
     }
-    aipsio::settle(1, c)
 }
 
 // Data type number, which is T's (else 5), options, dimensionality and shape.
@@ -87,31 +76,25 @@ pub fn read_layout(s: &[u8], c: Cursor, array: bool, number: usize) -> Layout
     let o = read_options(s, n.next, array);
     let d = read_dimensions(s, o.next, array);
     let e = read_elements(s, d.next, array, o.value, d.value);
-    let next = e.next;
     Layout {
         options: o.value,
         elements: e.value,
-        next: next,
+        next: e.next,
     }
 }
 
 // A scalar's default value by its type, or an array's unused Bool.
+#[tactic(auto, unfolding(table_rules::specs::ColumnDesc::default_at))]
 fn skip_default(s: &[u8], c: Cursor, array: bool, bits: usize) -> Cursor
     ensures { result ≡ default_at s.now c array bits }
 {
-    if array {
-        let v = aipsio::numbers::flag(s, c);
-        return v.next;
+    if array || bits == 1 {
+        aipsio::numbers::flag(s, c).next
+    } else if bits == 0 {
+        aipsio::strings::string(s, c, 0, 4096).next
+    } else {
+        aipsio::skip(c, bits / 8)
     }
-    if bits == 1 {
-        let v = aipsio::numbers::flag(s, c);
-        return v.next;
-    }
-    if bits == 0 {
-        let t = aipsio::strings::string(s, c, 0, 4096);
-        return t.next;
-    }
-    aipsio::skip(c, bits / 8)
 }
 
 // String maximum, keywords, version and default value. Gives the maximum.

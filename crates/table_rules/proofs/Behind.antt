@@ -2,7 +2,7 @@
 -- Assumes nothing.
 use mathlib.Core.Path.{◌≡◌, refl, ap}
 use mathlib.Core.List.{List}
-use Prim.Native.Nat.{ℕ, ◌+◌, ◌*◌, ◌≤◌}
+use Prim.Native.Nat.{ℕ, ◌+◌, ◌-◌, ◌*◌, ◌≤◌}
 use native.Mathlib.Omega.{arith}
 use borrow.Author.Tests.{eqb-true}
 use Rattle.bytes_at.specs.Number.{uint_of}
@@ -26,7 +26,7 @@ module _ (s : List ℕ) (c : Cursor) where
   text_is : Clean (text_at s c).next → record { start = c.at + 4; len = long; next = moved_to c (c.at + (4 + long)) } ≡ text_at s c
   text_is h = let p = fits h in any_string_on s c p.0 refl refl p.1
 
-  behind : (n : ℕ) → Clean (lists_in c (text_at s c) n).next → (lists_in c (text_at s c) n).info.offsets ≡ (lists_in c (text_at s c) n).info.sets + 4 * n
+  behind : (n : ℕ) → Clean (lists_in c (text_at s c) n).next → (text_at s c).next.at - 4 * n ≡ (text_at s c).start + 4 * n
   unfolding lists_in ◌>>=◌
   behind n h =
       let p = judged_passed (text_at s c).next c.at _ 6 h in
@@ -38,4 +38,5 @@ module _ (s : List ℕ) (c : Cursor) where
       omega arith
 
 pub offsets_behind_sets : OffsetsBehindSets
+unfolding lists_in ◌>>=◌
 offsets_behind_sets s c n h = behind s c n h

@@ -3,6 +3,7 @@
 use mathlib.Core.Path.{◌≡◌, refl, ◌∙◌}
 use mathlib.Core.List.{List}
 use mathlib.Core.Bool.{Bool, true, false, cond}
+use Rattle.std.specs.Prelude.{Option}
 use Prim.Native.Nat.{ℕ, zero, suc, ◌≤◌, zero-le}
 use lib.Dec.{eqb}
 use lib.ListN.{length, get_or, length-set, length-replicate}
@@ -15,6 +16,7 @@ use Rattle.aipsio_rules.specs.Field.{refusal_in}
 use Rattle.aipsio_rules.proofs.Bounds.{ranged_le}
 use Rattle.table_rules.specs.ColumnDesc.{no_column, column_into, no_columns, columns_at}
 use Rattle.table_rules.specs.declared.Owner.{Owner}
+use Rattle.table_rules.specs.declared.Info.{Info}
 use Rattle.table_rules.specs.ColumnSet.{most_rows, no_binding, column_set_head_at, bindings_at}
 use Rattle.table_rules.specs.declared.Description.{Description}
 use Rattle.table_rules.specs.Table.{table_desc_head_at, described_as, refused_table, EveryRowCount}
@@ -30,17 +32,14 @@ columns_long : (s : List ℕ) (c : Cursor) (n : ℕ) → length (columns_at s c 
 unfolding columns_at
 columns_long s c n = turns_long s c n
 
-bindings_long : (s : List ℕ) (owners : List Owner) (told : List Bool) (sets offsets : List ℕ) (n : ℕ) → length (bindings_at s owners told sets offsets n) ≡ 64
+bindings_long : (s : List ℕ) (owners : List Owner) (infos : List (Option Info)) (n : ℕ) → length (bindings_at s owners infos n) ≡ 64
 unfolding bindings_at after
-bindings_long s owners told sets offsets zero = length-replicate 64 no_binding
-bindings_long s owners told sets offsets (suc n) = length-set (bindings_at s owners told sets offsets n) n _ ∙ bindings_long s owners told sets offsets n
+bindings_long s owners infos zero = length-replicate 64 no_binding
+bindings_long s owners infos (suc n) = length-set (bindings_at s owners infos n) n _ ∙ bindings_long s owners infos n
 
 pub record Described (d : Description) : Type 0 where
   pub rows_most : d.rows ≤ most_rows
   pub columns_most : d.column_count ≤ 64
-  pub columns_places : length d.columns ≡ 64
-  pub bindings_places : length d.bindings ≡ 64
-  -- the cells of a column that is none of Bools take whole bytes
   pub columns_whole : (i : ℕ) → Whole (get_or d.columns i no_column)
   -- a byte other than 0 stands beside a refusal of 1 to 7 only
   pub others : OthersCarry0 d.refused
@@ -62,8 +61,6 @@ unfolding refused_table
 refused why h = record {
   rows_most = zero-le;
   columns_most = zero-le;
-  columns_places = length-replicate 64 no_column;
-  bindings_places = length-replicate 64 no_binding;
   columns_whole = no_columns_whole;
   others = h;
 }
@@ -82,8 +79,6 @@ described t =
     (record {
       rows_most = rw e (head_most t end head.rows);
       columns_most = rw k (count_most t o.next);
-      columns_places = rw x (columns_long t n.next n.count);
-      bindings_places = rw y (bindings_long t os.owners is.told is.sets is.offsets n.count);
       columns_whole = rw x (columns_whole t n.next n.count);
       others = others_none;
     })

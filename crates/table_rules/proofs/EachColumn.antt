@@ -72,7 +72,7 @@ module _ (s : List ℕ) where
       let cs = columns_read in
       let set = column_set_head_at s (closed cs.next table_head.next) table_head.rows in
       let ms = managers_at s set.next set.count set.highest in
-      let os = owners_at s ms.next cs.arrays desc_head.count ms.numbers set.count in
+      let os = owners_at s ms.next cs.columns desc_head.count ms.managers set.count in
       let d = closed (infos_at s os.next ms.managers os.counts set.count).next marked in
       let later : Keeps cs.next d =
       closed_keeps _ _ ⨟ set_head_keeps s _ _ ⨟ managers_keeps s _ _ _ ⨟ owners_keeps s _ _ _ _ _ ⨟ infos_keeps s _ _ _ _ ⨟ closed_keeps _ _ in

@@ -1,4 +1,6 @@
 -- Laws that the proofs cite.
+pub mod Searches
+pub mod Fronts
 pub mod WholeBytes
 pub mod Described
 pub mod Blamed

@@ -13,6 +13,7 @@ use Rattle.aipsio_rules.proofs.Kept.{Keeps, keeps_same, after_keeps, judged_keep
 use Rattle.aipsio_rules.proofs.Ends.{mark_stays}
 use Rattle.aipsio_rules.proofs.ObjectKept.{opened_reads, closed_keeps, block_reads, iposition_keeps, shape_reads, record_keeps}
 use Rattle.table_rules.specs.declared.ColumnHead.{ColumnHead}
+use Rattle.table_rules.specs.declared.Column.{Column}
 use Rattle.table_rules.specs.declared.Columns.{Columns}
 use Rattle.table_rules.specs.ColumnDesc.{column_type_at, column_head_at, notes_at, options_at, dimensions_at, elements_at, layout_at, default_at, tail_at, column_rest_at, column_into}
 use Rattle.table_rules.specs.declared.Manager.{Manager}
@@ -147,10 +148,10 @@ module _ (s : List ℕ) where
   unfolding manager_into ◌>>=◌
   manager_keeps highest ms i = (string_reads s _ 0 4096).keeps ⨟ (uint_reads s _).keeps ⨟ judged_keeps _ _ _ 6
 
-  owner_keeps : (arrays : List Bool) (numbers : List ℕ) (m : ℕ) (os : Owners) (i : ℕ)
-      → Keeps os.next (owner_into s arrays numbers m os i).next
+  owner_keeps : (columns : List Column) (managers : List Manager) (m : ℕ) (os : Owners) (i : ℕ)
+      → Keeps os.next (owner_into s columns managers m os i).next
   unfolding owner_into ◌>>=◌
-  owner_keeps arrays numbers m os i = sequence_keeps s _ ⨟ judged_keeps _ _ _ 6 ⨟ own_shape_keeps s _ _
+  owner_keeps columns managers m os i = sequence_keeps s _ ⨟ judged_keeps _ _ _ 6 ⨟ own_shape_keeps s _ _
 
   info_keeps : (managers : List Manager) (counts : List ℕ) (is : Infos) (j : ℕ) → Keeps is.next (info_into s managers counts is j).next
   unfolding info_into ◌>>=◌
@@ -161,9 +162,9 @@ module _ (s : List ℕ) (c : Cursor) where
   unfolding managers_at
   managers_keeps n highest = after_keeps _ (λ (ms : Managers). ms.next) (manager_keeps s highest) _ n
 
-  pub owners_keeps : (arrays : List Bool) (n : ℕ) (numbers : List ℕ) (m : ℕ) → Keeps c (owners_at s c arrays n numbers m).next
+  pub owners_keeps : (columns : List Column) (n : ℕ) (managers : List Manager) (m : ℕ) → Keeps c (owners_at s c columns n managers m).next
   unfolding owners_at
-  owners_keeps arrays n numbers m = after_keeps _ (λ (os : Owners). os.next) (owner_keeps s arrays numbers m) _ n
+  owners_keeps columns n managers m = after_keeps _ (λ (os : Owners). os.next) (owner_keeps s columns managers m) _ n
 
   pub infos_keeps : (managers : List Manager) (counts : List ℕ) (m : ℕ) → Keeps c (infos_at s c managers counts m).next
   unfolding infos_at

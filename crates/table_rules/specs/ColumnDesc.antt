@@ -1,7 +1,5 @@
 -- RULES.md 4.3 to 4.5, and Note 260, 3.1.1: ColumnDesc, its fields in file order.
-use Rattle.std.specs.Prelude.{Bool, true, false, ◌&&◌, not, cond, ℕ, ◌%◌, ◌/◌, ◌*◌, List, take, drop, get_or, set, replicate, eqb, leb, ltb}
-use Rattle.table_rules.specs.declared.data_type.Known.{Known}
-use Rattle.table_rules.specs.declared.data_type.Known.TheVariants.{Of, Nothing}
+use Rattle.std.specs.Prelude.{Bool, true, false, ◌&&◌, not, cond, ℕ, ◌%◌, ◌/◌, ◌*◌, List, take, drop, get_or, set, replicate, eqb, leb, ltb, Option, None, is_some, unwrap_or}
 use Rattle.table_rules.specs.declared.ColumnType.{ColumnType}
 use Rattle.bytes_at.specs.Bytes.{bytes, same_bytes}
 use Rattle.table_rules.specs.DataType.{nth_type, element_bits, with_name, is_string}
@@ -19,10 +17,8 @@ use Rattle.table_rules.specs.declared.Column.{Column}
 use Rattle.bytes_at.specs.Lists.{first_below}
 use Rattle.table_rules.specs.declared.Columns.{Columns}
 
--- what is no type carries the first of the table
-abbrev pub typed : Bool → Known → ColumnType
-typed array (Of t) = record { known = true; array = array; datatype = t }
-typed array Nothing = record { known = false; array = array; datatype = nth_type 0 }
+abbrev pub typed : Bool → Option DataType → ColumnType
+typed array t = record { array = array; datatype = t }
 
 -- "ScalarColumnDesc<T and ArrayColumnDesc<T, no closing bracket"
 unfoldable pub column_type_of : List ℕ → ColumnType
@@ -31,16 +27,16 @@ column_type_of s =
     (typed false (with_name (drop 17 s)))
     (cond (same_bytes (take 16 s) (bytes "ArrayColumnDesc<"))
     (typed true (with_name (drop 16 s)))
-    (typed false Nothing))
+    (typed false None))
 
--- the column type string, else 5
+-- the column type string, else 5; what is no type carries the first of the table
 unfoldable pub column_type_at : List ℕ → Cursor → TypeRead
 column_type_at s c = do
   t ← string_at s c 0 4096
   found ← take t.len (drop t.start s)
   k ← column_type_of found
-  d ← judged t.next c.at k.known 5
-  record { array = k.array; datatype = k.datatype; next = d }
+  d ← judged t.next c.at (is_some k.datatype) 5
+  record { array = k.array; datatype = unwrap_or k.datatype (nth_type 0); next = d }
 
 -- ColumnDesc version, type, BaseColumnDesc version, and the column's name: "described column name 1 to 64 bytes"
 unfoldable pub column_head_at : List ℕ → Cursor → ColumnHead
@@ -198,15 +194,11 @@ column_into s cs i = do
   k ← first_named s cs.columns i name
   d ← judged head.next head.from (eqb k i) 6
   read ← column_rest_at s head d
-  record {
-    columns = set cs.columns i read.column;
-    arrays = set cs.arrays i read.column.array;
-    next = read.next;
-  }
+  record { columns = set cs.columns i read.column; next = read.next }
 
 -- no column yet
 abbrev pub no_columns : Cursor → Columns
-no_columns c = record { columns = replicate 64 no_column; arrays = replicate 64 false; next = c }
+no_columns c = record { columns = replicate 64 no_column; next = c }
 
 -- n columns
 unfoldable pub columns_at : List ℕ → Cursor → ℕ → Columns

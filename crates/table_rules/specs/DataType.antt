@@ -1,10 +1,8 @@
 -- RULES.md 4.3: the data types.
-use Rattle.std.specs.Prelude.{ℕ, ◌*◌, ◌≡◌, List, [], ◌∷◌, ◌++◌, get_or, take, eqb, ltb, Bool, ◌||◌, cond}
+use Rattle.std.specs.Prelude.{ℕ, ◌*◌, ◌≡◌, List, [], ◌∷◌, ◌++◌, get_or, take, eqb, ltb, Bool, ◌||◌, cond, Option, Some, None}
 use Rattle.table_rules.specs.declared.data_type.DataType.{DataType}
 use Rattle.bytes_at.specs.Bytes.{bytes, same_bytes}
 use Rattle.bytes_at.specs.Lists.{first_below}
-use Rattle.table_rules.specs.declared.data_type.Known.{Known}
-use Rattle.table_rules.specs.declared.data_type.Known.TheVariants.{Of, Nothing}
 
 -- a row of the table: T, its number, and the bits of an element
 pub record TypeRow : Type 0 where
@@ -80,15 +78,15 @@ filled name = take 8 (name ++ bytes "        ")
 abbrev pub is_name : List ℕ → List ℕ → Bool
 is_name s name = same_bytes s name || same_bytes s (filled name)
 
-abbrev pub known_at : ℕ → Known
-known_at i = cond (ltb i 12) (Of (nth_type i)) Nothing
+abbrev pub known_at : ℕ → Option DataType
+known_at i = cond (ltb i 12) (Some (nth_type i)) None
 
 -- the type of a number
-unfoldable pub with_number : ℕ → Known
+unfoldable pub with_number : ℕ → Option DataType
 with_number n = known_at (type_place n)
 
 -- the type of a name
-unfoldable pub with_name : List ℕ → Known
+unfoldable pub with_name : List ℕ → Option DataType
 with_name s = known_at (first_below (λ (i : ℕ). is_name s (nth_row i).name) 12)
 
 -- a Bool's number, and a String's

@@ -1,5 +1,5 @@
 -- RULES.md 4.1, 4.2, 4.10 and 4.11, and Note 260, 3.1: Table, TableDesc; the questions Description and Column by name.
-use Rattle.std.specs.Prelude.{ℕ, ◌≤◌, ◌<◌, ◌≡◌, List, length, replicate, get_or, leb, eqb, ltb, true, false, cond}
+use Rattle.std.specs.Prelude.{ℕ, ◌≤◌, ◌<◌, ◌≡◌, List, length, replicate, get_or, leb, eqb, ltb, true, false, cond, Result, Ok, Err}
 use Rattle.bytes_at.specs.Bytes.{bytes}
 use Rattle.aipsio_rules.specs.declared.Cursor.{Cursor}
 use Rattle.aipsio_rules.specs.Field.{refusal_in, judged, uint_at, number_at, code_at, name_at, string_at, mark_at}
@@ -12,8 +12,6 @@ use Rattle.table_rules.specs.ColumnSet.{most_rows, no_manager, no_binding, colum
 use Rattle.table_rules.specs.declared.Description.{Description}
 use Rattle.table_rules.specs.declared.Column.{Column}
 use Rattle.table_rules.specs.declared.Binding.{Binding}
-use Rattle.table_rules.specs.declared.Position.{Position}
-use Rattle.table_rules.specs.declared.Position.TheVariants.{At, Refused}
 use Rattle.bytes_at.specs.declared.Refusal.{Refusal}
 use Rattle.bytes_at.specs.Stages.{no_refusal, ◌▷◌, or_no, OthersCarry0}
 
@@ -74,10 +72,10 @@ described_as s = do
   e ← closed cs.next head.next
   set ← column_set_head_at s e head.rows
   ms ← managers_at s set.next set.count set.highest
-  os ← owners_at s ms.next cs.arrays n.count ms.numbers set.count
+  os ← owners_at s ms.next cs.columns n.count ms.managers set.count
   is ← infos_at s os.next ms.managers os.counts set.count
   d ← closed is.next m
-  bindings ← bindings_at s os.owners is.told is.sets is.offsets n.count
+  bindings ← bindings_at s os.owners is.infos n.count
   cond (eqb d.refused 0)
       (record {
         refused = no_refusal;
@@ -106,24 +104,24 @@ EveryRowCount = (t : List ℕ) → (described_as t).rows ≤ most_rows
 abbrev pub EveryColumnHasBits : Type 0
 EveryColumnHasBits = (t : List ℕ) (i : ℕ) → (described_as t).refused.number ≡ 0 → i < (described_as t).column_count → 0 < (column_in (described_as t) i).bits
 
-abbrev pub position_or : Refusal → ℕ → Position
-position_or refused k = cond (eqb refused.number 0) (At k) (Refused refused)
+abbrev pub position_or : Refusal → ℕ → Result ℕ Refusal
+position_or refused k = cond (eqb refused.number 0) (Ok k) (Err refused)
 
 -- Column by name: its position, from 0 in stored order, or 8
-unfoldable pub column_named : List ℕ → List ℕ → Position
+unfoldable pub column_named : List ℕ → List ℕ → Result ℕ Refusal
 column_named s name = do
   d ← described_as s
   k ← first_named s d.columns d.column_count name
   position_or (d.refused ▷ or_no (ltb k d.column_count) 8) k
 
 -- what each case of that answer says: the refusal, and the position, 0 where it is refused
-abbrev pub position_refusal : Position → Refusal
-position_refusal (At k) = no_refusal
-position_refusal (Refused why) = why
+abbrev pub position_refusal : Result ℕ Refusal → Refusal
+position_refusal (Ok k) = no_refusal
+position_refusal (Err why) = why
 
-abbrev pub position_value : Position → ℕ
-position_value (At k) = k
-position_value (Refused why) = 0
+abbrev pub position_value : Result ℕ Refusal → ℕ
+position_value (Ok k) = k
+position_value (Err why) = 0
 
 -- "Others carry 0": of every table, and of every name that is looked for.
 abbrev pub EveryTableByte : Type 0

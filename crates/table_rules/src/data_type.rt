@@ -5,19 +5,14 @@ ghost use Rattle.table_rules.specs.DataType.{nth_row, type_name, element_bits, f
 
 // A data type: its number in Casacore's DataType.h. The bits of an element go by the number alone (`bits_of`). Two bytes, so that a
 // `Column` has no gap, and a list of them is cleared as one block.
+// No enum: `bits_of` and `hv_element_bits` take every number, and a plan that C hands in may name any.
 #[derive(Clone, Copy)]
 pub struct DataType {
     pub number: u16,
 }
 
-// The type that a number or a name stands for, or that it stands for none.
-#[derive(Clone, Copy)]
-pub enum Known {
-    Of(DataType),
-    Nothing,
-}
-
 impl DataType {
+    // A constant for each type, of one shape: they differ in the number alone, and each has its type's name.
     pub const BOOL: DataType = DataType { number: 0 };
 
     pub const UCHAR: DataType = DataType { number: 2 };
@@ -42,100 +37,60 @@ impl DataType {
 
     pub const INT64: DataType = DataType { number: 29 };
 
-    // The names, filled with spaces to eight characters.
-    const BOOL_NAME: [u8; 8] = *b"Bool    ";
-
-    const UCHAR_NAME: [u8; 8] = *b"uChar   ";
-
-    const SHORT_NAME: [u8; 8] = *b"Short   ";
-
-    const USHORT_NAME: [u8; 8] = *b"uShort  ";
-
-    const INT_NAME: [u8; 8] = *b"Int     ";
-
-    const UINT_NAME: [u8; 8] = *b"uInt    ";
-
-    const FLOAT_NAME: [u8; 8] = *b"float   ";
-
-    const DOUBLE_NAME: [u8; 8] = *b"double  ";
-
-    const COMPLEX_NAME: [u8; 8] = *b"Complex ";
-
-    const DCOMPLEX_NAME: [u8; 8] = *b"DComplex";
-
-    const STRING_NAME: [u8; 8] = *b"String  ";
-
-    const INT64_NAME: [u8; 8] = *b"Int64   ";
-
-    const NO_NAME: [u8; 8] = *b"        ";
+    // The bare name; no characters for what is none of the types.
+    #[tactic(auto, unfolding(crate::specs::DataType::type_name, crate::specs::DataType::type_place, bytes_at::specs::Lists::first_from))]
+    pub fn bare_name(self) -> &'static [u8]
+        ensures value { result.now ≡ type_name self }
+        ensures bounded { length result.now ≤ 8 }
+    {
+        match self.number {
+            0 => b"Bool",
+            2 => b"uChar",
+            3 => b"Short",
+            4 => b"uShort",
+            5 => b"Int",
+            6 => b"uInt",
+            7 => b"float",
+            8 => b"double",
+            9 => b"Complex",
+            10 => b"DComplex",
+            11 => b"String",
+            29 => b"Int64",
+            _ => b"",
+        }
+    }
 
     // The name, filled with spaces to eight characters; spaces alone for what is none of the types.
     pub fn name(self) -> [u8; 8]
         ensures { result ≡ filled (type_name self) }
     {
-        let number = self.number;
-        match number {
-            0 => DataType::BOOL_NAME,
-            2 => DataType::UCHAR_NAME,
-            3 => DataType::SHORT_NAME,
-            4 => DataType::USHORT_NAME,
-            5 => DataType::INT_NAME,
-            6 => DataType::UINT_NAME,
-            7 => DataType::FLOAT_NAME,
-            8 => DataType::DOUBLE_NAME,
-            9 => DataType::COMPLEX_NAME,
-            10 => DataType::DCOMPLEX_NAME,
-            11 => DataType::STRING_NAME,
-            29 => DataType::INT64_NAME,
-            _ => DataType::NO_NAME,
-        }
+        let bare = self.bare_name();
+        let mut name = [b' '; 8];
+        name[..bare.len()].copy_from_slice(bare);
+        name
     }
 
     // How long the bare name is.
     pub fn name_len(self) -> usize
         ensures { (result ≡ length (type_name self)) × (result ≤ 8) }
     {
-        let number = self.number;
-        match number {
-            0 => 4,
-            2 => 5,
-            3 => 5,
-            4 => 6,
-            5 => 3,
-            6 => 4,
-            7 => 5,
-            8 => 6,
-            9 => 7,
-            10 => 8,
-            11 => 6,
-            29 => 5,
-            _ => 0,
-        }
+        self.bare_name().len()
     }
 
     // The type of a number.
-    pub fn from_number(n: usize) -> Known
+    // No TryFrom: `with_number` and `with_name` give an Option, and an error would say nothing more.
+    pub fn from_number(n: usize) -> Option<DataType>
         ensures { result ≡ with_number n }
     {
         match n {
-            0 => Known::Of(DataType::BOOL),
-            2 => Known::Of(DataType::UCHAR),
-            3 => Known::Of(DataType::SHORT),
-            4 => Known::Of(DataType::USHORT),
-            5 => Known::Of(DataType::INT),
-            6 => Known::Of(DataType::UINT),
-            7 => Known::Of(DataType::FLOAT),
-            8 => Known::Of(DataType::DOUBLE),
-            9 => Known::Of(DataType::COMPLEX),
-            10 => Known::Of(DataType::DCOMPLEX),
-            11 => Known::Of(DataType::STRING),
-            29 => Known::Of(DataType::INT64),
-            _ => Known::Nothing,
+            0 | 2..=11 | 29 => Some(DataType { number: n as u16 }),
+            _ => None,
         }
     }
 
     // The bits of an element, from its type's number: the rows of Note 260's table of 3.4.2 (| Data Type | Size |) in their
     // order, corrected behind a colon, then everything else, a String too. Every other function that needs a size has it from here.
+    #[tactic(auto, unfolding(crate::specs::DataType::element_bits))]
     pub fn bits_of(number: usize) -> usize
         ensures value { result ≡ element_bits number }
         ensures bounded { result < 256 }
@@ -168,12 +123,7 @@ impl DataType {
     fn named(self, s: &[u8]) -> bool
         ensures { result ≡ is_name s.now (type_name self) }
     {
-        let name = self.name();
-        let len = self.name_len();
-        if bytes_at::text_at::same(s, &name[..len]) {
-            return true;
-        }
-        bytes_at::text_at::same(s, &name)
+        bytes_at::same(s, self.bare_name()) || bytes_at::same(s, &self.name())
     }
 
     // The number of the one type whose name the bytes can be. The fourth letter tells the names apart, and the first uChar
@@ -184,15 +134,10 @@ impl DataType {
         if s.len() < 4 {
             return 5;
         }
-        let letter = s[3];
-        match letter {
+        match s[3] {
             b'l' => 0,
-            b'a' => {
-                if s[0] == b'u' {
-                    return 2;
-                }
-                7
-            }
+            b'a' if s[0] == b'u' => 2,
+            b'a' => 7,
             b'r' => 3,
             b'o' => 4,
             b't' => 6,
@@ -206,18 +151,9 @@ impl DataType {
     }
 
     // The type of a name, bare or filled with spaces to eight characters.
-    pub fn from_name(s: &[u8]) -> Known
+    pub fn from_name(s: &[u8]) -> Option<DataType>
         ensures { result ≡ with_name s.now }
     {
-        let k = DataType::from_number(DataType::candidate(s));
-        match k {
-            Known::Of(t) => {
-                if t.named(s) {
-                    return k;
-                }
-                Known::Nothing
-            }
-            Known::Nothing => k,
-        }
+        DataType::from_number(DataType::candidate(s)).filter(|t| t.named(s))
     }
 }

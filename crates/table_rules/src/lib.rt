@@ -8,12 +8,11 @@ use crate::data_type::DataType;
 use aipsio_rules::Cursor;
 use bytes_at::Refusal;
 
-// What a column type string says: whether it is one, whether the cells are arrays, and the type of an element.
+// What a column type string says: whether the cells are arrays, and the type of an element, where it names one.
 #[derive(Clone, Copy)]
 pub struct ColumnType {
-    pub known: bool,
     pub array: bool,
-    pub datatype: DataType,
+    pub datatype: Option<DataType>,
 }
 
 // A column's type, and the cursor past the string that says it.
@@ -57,6 +56,20 @@ pub struct Column {
     pub bits: u32,
 }
 
+impl Column {
+    // No Default: it is what stands where there is none, and has the name of `no_column`.
+    pub const NONE: Column = Column {
+        start: 0,
+        len: 0,
+        datatype: DataType::BOOL,
+        array: false,
+        options: 0,
+        elements: 0,
+        maximum: 0,
+        bits: 0,
+    };
+}
+
 // A column, and the cursor past its description.
 #[derive(Clone, Copy)]
 pub struct ColumnRead {
@@ -64,13 +77,12 @@ pub struct ColumnRead {
     pub next: Cursor,
 }
 
-// Columns in stored order, which of them hold arrays, and the cursor past them. With the cursor between the two lists each is
-// copied by itself, and a copy of a copy is then left out.
+// Columns in stored order, and the cursor past them.
+// A list of fixed length, since there is no heap; how many stand in it the caller knows, who asked for as many.
 #[derive(Clone, Copy)]
 pub struct Columns {
     pub columns: [Column; 64],
     pub next: Cursor,
-    pub arrays: [bool; 64],
 }
 
 // The table's row count, the highest sequence number and the number of managers, and the cursor past them.
@@ -83,7 +95,7 @@ pub struct ColumnSetHead {
 }
 
 // A manager's kind is its exact name.
-#[derive(Clone, Copy)]
+#[derive(Clone, Copy, PartialEq, Eq)]
 pub enum Kind {
     Other,
     Standard,
@@ -94,17 +106,27 @@ pub enum Kind {
 #[derive(Clone, Copy)]
 pub struct Manager {
     pub start: usize,
-    pub number: u32,
+    pub number: usize,
     pub len: u16,
     pub kind: Kind,
 }
 
-// Managers in stored order, their sequence numbers, and the cursor past them.
+impl Manager {
+    // No Default: it is what stands where there is none, and has the name of `no_manager`.
+    pub const NONE: Manager = Manager {
+        start: 0,
+        number: 0,
+        len: 0,
+        kind: Kind::Other,
+    };
+}
+
+// Managers in stored order, and the cursor past them.
+// A list of fixed length, since there is no heap; how many stand in it the caller knows, who asked for as many.
 #[derive(Clone, Copy)]
 pub struct Managers {
     pub managers: [Manager; 16],
     pub next: Cursor,
-    pub numbers: [usize; 16],
 }
 
 // A column's sequence number, whose field begins at `from`.
@@ -116,6 +138,7 @@ pub struct Sequence {
 }
 
 // A column's sequence number, the position of the manager that has it, and how many earlier columns that manager has.
+// No Option: where no manager has the number, the position is how many there are, as `first_number` (specs/ColumnSet) gives it.
 #[derive(Clone, Copy)]
 pub struct Owner {
     pub sequence: u32,
@@ -123,7 +146,17 @@ pub struct Owner {
     pub rank: u32,
 }
 
+impl Owner {
+    // No Default: it is what stands where there is none, and has the name of `no_owner`.
+    pub const NONE: Owner = Owner {
+        sequence: 0,
+        manager: 0,
+        rank: 0,
+    };
+}
+
 // The owners of the columns in stored order, how many columns each manager has, and the cursor past ColumnInfo.
+// Lists of fixed length, since there is no heap.
 #[derive(Clone, Copy)]
 pub struct Owners {
     pub owners: [Owner; 64],
@@ -131,36 +164,43 @@ pub struct Owners {
     pub counts: [usize; 16],
 }
 
-// Where a manager's DMInfo has the set numbers and the offsets of its columns, 4 bytes each; whether it tells them at all.
+// Where a manager's DMInfo has the set numbers and the offsets of its columns, 4 bytes each.
 #[derive(Clone, Copy)]
 pub struct Info {
-    pub told: bool,
     pub sets: usize,
     pub offsets: usize,
 }
 
-// DMInfo of a manager, and the cursor past it.
+// DMInfo of a manager, if it tells them, and the cursor past it.
 #[derive(Clone, Copy)]
 pub struct InfoRead {
-    pub info: Info,
+    pub info: Option<Info>,
     pub next: Cursor,
 }
 
-// The same of the managers in stored order, in lists, which can be lent, and the cursor past all of them.
+// The same of the managers in stored order, and the cursor past all of them.
+// A list of fixed length, since there is no heap.
 #[derive(Clone, Copy)]
 pub struct Infos {
-    pub told: [bool; 16],
-    pub sets: [usize; 16],
-    pub offsets: [usize; 16],
+    pub infos: [Option<Info>; 16],
     pub next: Cursor,
 }
 
 // Where a column is kept: its manager's sequence number, and the set number and the offset that DMInfo tells.
 #[derive(Clone, Copy)]
 pub struct Binding {
+    pub set: usize,
     pub sequence: u32,
-    pub set: u32,
     pub offset: u32,
+}
+
+impl Binding {
+    // No Default: it is what stands where there is none, and has the name of `no_binding`.
+    pub const NONE: Binding = Binding {
+        sequence: 0,
+        set: 0,
+        offset: 0,
+    };
 }
 
 // The count in Table's header and the endianness, and the cursor past the table type.
@@ -179,6 +219,9 @@ pub struct TableDescHead {
 }
 
 // What table.dat says; zeros where it is refused. The columns stand in stored order, each with its binding.
+// Zeros beside a refusal, and no Err: `refused_table` has them and C is told them. Lists of fixed length: there is no heap.
+// Columns and bindings are two lists, as `described_as` has them: each is filled where it lies, by the loop that reads it.
+// That there are at most 64 columns is a clause of who needs it: definitions build Descriptions too, and would all carry a ghost field.
 #[derive(Clone, Copy)]
 pub struct Description {
     pub refused: Refusal,
@@ -189,11 +232,4 @@ pub struct Description {
     pub bindings: [Binding; 64],
     pub managers: [Manager; 16],
     pub big: bool,
-}
-
-// A column's position, or the refusal.
-#[derive(Clone, Copy)]
-pub enum Position {
-    At(usize),
-    Refused(Refusal),
 }

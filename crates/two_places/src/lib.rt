@@ -8,17 +8,25 @@ ghost use Rattle.lookup_rules.specs.declared.Question.TheVariants.{Place};
 ghost use Rattle.lookup_rules.specs.Answers.{placed_of};
 ghost use Rattle.two_places.specs.Demand.{PlacedThere, Demanded};
 
+use bytes_at::Refusal;
 use lookup_rules::{Asked, Placed};
 
 #[derive(Clone, Copy)]
 pub struct Two {
-    pub one: Placed,
-    pub other: Placed,
+    pub one: Result<Placed, Refusal>,
+    pub other: Result<Placed, Refusal>,
 }
 
 // Place, as it is asked. In IncrementalStMan the place lies wholly inside the data part of the bucket that the index gives to its
 // row, off the header, off every free bucket and off the ISMIndex.
-pub fn place_by(table: &[u8], file: &[u8], row: usize, asked: Asked, room: &mut [u8]) -> Placed
+// Not `lookup::place_asked`, which is private: `there` is promised here alone.
+pub fn place_by(
+    table: &[u8],
+    file: &[u8],
+    row: usize,
+    asked: Asked,
+    room: &mut [u8],
+) -> Result<Placed, Refusal>
     ensures value { (result ≡ placed_of (answer_of table.now file.now (Place row asked) (length room.old))) × (room.new ≡ room_after table.now file.now (Place row asked) (length room.old)) }
     ensures there { PlacedThere table.now file.now row asked result }
 {
@@ -29,6 +37,7 @@ pub fn place_by(table: &[u8], file: &[u8], row: usize, asked: Asked, room: &mut 
 }
 
 // Wrong answers that the contract rules out: one place for two cells, and a place in a free bucket.
+// Eight parameters: two questions side by side, each lent as `lookup::place` is; `Demanded` takes them so.
 pub fn two_places(
     table: &[u8],
     file: &[u8],
@@ -45,8 +54,5 @@ pub fn two_places(
 {
     let one = place_by(table, file, row, asked, room);
     let other = place_by(table, file, row2, asked2, room2);
-    Two {
-        one: one,
-        other: other,
-    }
+    Two { one, other }
 }

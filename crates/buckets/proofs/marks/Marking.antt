@@ -3,13 +3,13 @@
 use mathlib.Core.Path.{◌≡◌, refl, sym, ◌∙◌}
 use mathlib.Core.Bool.{Bool, true, false, ◌&&◌, false≢true, and_assoc}
 use mathlib.Core.List.{List, [], ◌∷◌, ◌++◌}
-use Prim.Native.Nat.{ℕ, zero, suc, ◌+◌, ◌-◌, ◌≤◌, ◌<◌}
-use native.Mathlib.Nat.{not-suc-le-zero}
+use Prim.Native.Nat.{ℕ, zero, suc, ◌+◌, ◌-◌, ◌*◌, ◌≤◌, ◌<◌}
+use native.Mathlib.Nat.{not-suc-le-zero, suc-mul}
+use native.Mathlib.Omega.{arith}
 use native.Mathlib.Numerals.{sub-one}
 use lib.ListN.{get_or, set}
 use lib.Dec.{eqb, ltb, ltb→lt}
 use store.Enc.{and_l}
-use borrow.Author.Tests.{lt-ltb, le-ltb, eq-eqb, ne_eqb}
 use Rattle.bytes_at.specs.Number.{uint_of, numbers_at}
 use Rattle.bytes_at.proofs.Tests.{passed}
 use Rattle.buckets.specs.Marks.{is_unmarked, all_unmarked, marked}
@@ -19,19 +19,6 @@ pub fresh_below : {nb : ℕ} (t : List ℕ) {b : ℕ} {r : Bool} → r ≡ is_un
 unfolding is_unmarked
 fresh_below {nb} t {b} e h = ltb→lt b nb (and_l (ltb b nb) (eqb (get_or t b 0) 0) (passed (sym e ∙ h)))
 
-module _ (nb : ℕ) (t : List ℕ) (b : ℕ) where
-  pub add_out : {X : Type 0} → nb ≤ b → (false ≡ is_unmarked nb t b) × (false ≡ true → X)
-  unfolding is_unmarked
-  add_out h = (rw (le-ltb b nb h), λ e. absurd (false≢true e))
-
-  pub add_again : {X : Type 0} → b < nb → (get_or t b 0 ≡ 0 → ⊥) → (false ≡ is_unmarked nb t b) × (false ≡ true → X)
-  unfolding is_unmarked
-  add_again h e = (rw (lt-ltb b nb h, ne_eqb _ _ e), λ e. absurd (false≢true e))
-
-  pub add_new : b < nb → get_or t b 0 ≡ 0 → (true ≡ is_unmarked nb t b) × (true ≡ true → set t b 1 ≡ set t b 1)
-  unfolding is_unmarked
-  add_new h e = (rw (lt-ltb b nb h, eq-eqb _ _ e), λ _. refl)
-
 -- ---- what is promised where the list xs is marked over the table z, with the table left as t and the answer r
 abbrev pub Marks : ℕ → List ℕ → List ℕ → List ℕ → Bool → Type 0
 Marks nb z xs t r = (r ≡ all_unmarked nb z xs) × (r ≡ true → t ≡ marked z xs)
@@ -40,9 +27,6 @@ Marks nb z xs t r = (r ≡ all_unmarked nb z xs) × (r ≡ true → t ≡ marked
 pub record Marking (nb : ℕ) (z xs t ys : List ℕ) : Type 0 where
   pub test : all_unmarked nb z xs ≡ all_unmarked nb t ys
   pub table : marked z xs ≡ marked t ys
-
-pub marking_none : (nb : ℕ) (t xs : List ℕ) → Marking nb t xs t xs
-marking_none nb t xs = record { test = refl; table = refl }
 
 module _ {nb : ℕ} {z xs t ys : List ℕ} (v : Marking nb z xs t ys) where
   pub marking_more : {y : ℕ} {ys' t' : List ℕ} {r : Bool} → ys ≡ y ∷ ys' → r ≡ is_unmarked nb t y → r ≡ true → (r ≡ true → t' ≡ set t y 1) → Marking nb z xs t' ys'
@@ -95,6 +79,14 @@ module _ (big : Bool) (width : ℕ) (s : List ℕ) where
   unfolding numbers_at
   numbers_more i zero h e = absurd (not-suc-le-zero h)
   numbers_more i (suc n) h e = rw (sub-one, e)
+
+  -- after i of n turns
+  pub numbers_turn : (from n i : ℕ) {y : ℕ} → i < n → y ≡ uint_of big width s (from + i * width)
+      → numbers_at big width s (from + i * width) (n - i) ≡ y ∷ numbers_at big width s (from + (i + 1) * width) (n - (i + 1))
+  numbers_turn from n i h e =
+      let left : n - (i + 1) ≡ n - i - 1 = omega arith in
+      let at : from + (i + 1) * width ≡ from + i * width + width = omega (arith, suc-mul i width) in
+      rw (left, at) (numbers_more (from + i * width) (n - i) (omega arith) e)
 
   pub numbers_end : (i n : ℕ) → n ≤ 0 → numbers_at big width s i n ≡ []
   unfolding numbers_at

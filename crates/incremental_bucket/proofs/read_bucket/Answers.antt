@@ -8,14 +8,12 @@ use Rattle.incremental_bucket.proofs.Ends.{head_of_end}
 use Rattle.incremental_bucket.proofs.read_bucket.Goals as goal
 
 pub read_columns-requires : goal.read_columns-requires
-read_columns-requires c =
-    let p = c.requires in
-    (p.0, omega (arith, head_of_end _ _ _ c.read_head-head.ensures, p.1))
+read_columns-requires c = omega (arith, head_of_end _ _ _ c.read_head-head.ensures, c.requires)
 
 pub returns : goal.returns
 unfolding bucket_at
 returns c =
     let a = c.args in
-    at_most (bucket_le a.f.now a.at a.size a.big a.rows a.row a.column a.bytes.now a.n) (
+    at_most (bucket_le a.f.now a.at a.size a.big a.rows a.row a.column a.bytes.now _) (
     via _ c.read_head-head.ensures (
-    via _ c.of_int-width.ensures c.read_columns.ensures))
+    via _ c.of_int.ensures c.read_columns.ensures))

@@ -8,5 +8,5 @@ pub returns : goal.returns
 unfolding is_iposition
 returns c =
     via _ c.skip-d.ensures (
-    via _ c.text_name-e.ensures (
+    via _ c.name-e.ensures (
     refl))

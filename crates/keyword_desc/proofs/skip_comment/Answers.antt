@@ -7,8 +7,8 @@ use Rattle.keyword_desc.proofs.skip_comment.Goals as goal
 
 pub returns-then-version-eq2 : goal.returns-then-version-eq2
 unfolding comment_at
-returns-then-version-eq2 c = rw (eq-eqb _ 2 c.if-version-eq2.true) (ap (λ (t : Text). t.next) c.string-t.ensures.value)
+returns-then-version-eq2 c = rw (eq-eqb _ 2 c.if-version-eq2.true) (ap (λ (t : Text). t.next) c.string.ensures.value)
 
-pub returns : goal.returns
+pub returns-else-version-eq2 : goal.returns-else-version-eq2
 unfolding comment_at
-returns c = rw (ne_eqb _ 2 c.if-version-eq2.false)
+returns-else-version-eq2 c = rw (ne_eqb _ 2 c.if-version-eq2.false)

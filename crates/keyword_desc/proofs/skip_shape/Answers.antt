@@ -6,6 +6,6 @@ pub returns-then-is_iposition : goal.returns-then-is_iposition
 unfolding shape_in_desc_at
 returns-then-is_iposition c = rw (← c.is_iposition.ensures, c.if-is_iposition.true) c.iposition.ensures
 
-pub returns : goal.returns
+pub returns-else-is_iposition : goal.returns-else-is_iposition
 unfolding shape_in_desc_at
-returns c = rw (← c.is_iposition.ensures, c.if-is_iposition.false) c.skip_counted.ensures
+returns-else-is_iposition c = rw (← c.is_iposition.ensures, c.if-is_iposition.false) c.skip_counted.ensures

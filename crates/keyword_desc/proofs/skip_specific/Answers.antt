@@ -9,10 +9,10 @@ pub returns-then-is_array_type : goal.returns-then-is_array_type
 unfolding specific_at
 returns-then-is_array_type c = rw (← c.is_array_type.ensures, c.if-is_array_type.true) c.skip_shape.ensures
 
-pub returns-then-number-eq12 : goal.returns-then-number-eq12
+pub returns-then-number-eq-TABLE : goal.returns-then-number-eq-TABLE
 unfolding specific_at
-returns-then-number-eq12 c = rw (← c.is_array_type.ensures, c.if-is_array_type.false, eq-eqb _ 12 c.if-number-eq12.true) (ap (λ (t : Text). t.next) c.string-t.ensures.value)
+returns-then-number-eq-TABLE c = rw (← c.is_array_type.ensures, c.if-is_array_type.false, eq-eqb _ 12 c.if-number-eq-TABLE.true) (ap (λ (t : Text). t.next) c.string.ensures.value)
 
-pub returns : goal.returns
+pub returns-else-number-eq-TABLE : goal.returns-else-number-eq-TABLE
 unfolding specific_at
-returns c = rw (← c.is_array_type.ensures, c.if-is_array_type.false, ne_eqb _ 12 c.if-number-eq12.false)
+returns-else-number-eq-TABLE c = rw (← c.is_array_type.ensures, c.if-is_array_type.false, ne_eqb _ 12 c.if-number-eq-TABLE.false)

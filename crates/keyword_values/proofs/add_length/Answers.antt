@@ -1,17 +1,17 @@
--- `keyword_values::add_length` meets its contract: its calls compose as the definition says, and no product is above 2^63.
+-- `keyword_values::add_length` meets its contract: its calls compose as the definition says.
+use mathlib.Core.Path.{◌≡◌}
+use Prim.Native.Nat.{ℕ, min}
 use native.Mathlib.Omega.{arith}
-use native.Mathlib.Nat.{mul-le-mul}
 use Rattle.bytes_at.proofs.Stepped.{via}
 use Rattle.keyword_rules.specs.Values.{length_into}
 use Rattle.keyword_values.proofs.add_length.Goals as goal
 
-pub overflow_mul-product : goal.overflow_mul-product
-overflow_mul-product c = record { fits = omega (arith, mul-le-mul c.requires c.code-axis.ensures.bounded) }
+-- a product that 64 bits do not hold is above 2^32
+held : (m r k : ℕ) → r ≡ min m 18446744073709551615 → k ≡ min r 4294967296 → k ≡ min m 4294967296
+held m r k e f = omega arith
 
 pub returns : goal.returns
 unfolding length_into
-returns c = record {
-  value = via _ c.code-axis.ensures.value (
-      via _ c.cap-more.ensures.value c.settle.ensures.value);
-  bounded = omega (arith, c.settle.ensures.bounded, c.cap-more.ensures.bounded);
-}
+returns c =
+    via _ c.code-axis.ensures.value (
+    via _ (held _ _ _ c.saturating_mul.ensures c.min-more.ensures) c.settle.ensures.value)

@@ -7,6 +7,6 @@ pub returns-then-version-lt3 : goal.returns-then-version-lt3
 unfolding origin_at
 returns-then-version-lt3 c = rw (lt-ltb _ 3 c.if-version-lt3.true) c.skip_each.ensures
 
-pub returns : goal.returns
+pub returns-else-version-lt3 : goal.returns-else-version-lt3
 unfolding origin_at
-returns c = rw (le-ltb _ 3 c.if-version-lt3.false)
+returns-else-version-lt3 c = rw (le-ltb _ 3 c.if-version-lt3.false)

@@ -6,6 +6,6 @@ pub returns-then-is_array_type : goal.returns-then-is_array_type
 unfolding plain_at
 returns-then-is_array_type c = rw (← c.is_array_type.ensures, c.if-is_array_type.true, ← c.element_type.ensures) c.skip_array.ensures
 
-pub returns : goal.returns
+pub returns-else-is_array_type : goal.returns-else-is_array_type
 unfolding plain_at
-returns c = rw (← c.is_array_type.ensures, c.if-is_array_type.false) c.skip_scalar.ensures
+returns-else-is_array_type c = rw (← c.is_array_type.ensures, c.if-is_array_type.false) c.skip_scalar.ensures

@@ -9,12 +9,12 @@ use Rattle.keyword_values.proofs.skip_scalar.Goals as goal
 
 pub returns-then-each-eq1 : goal.returns-then-each-eq1
 unfolding scalar_at
-returns-then-each-eq1 c = via _ c.bits_of-each.ensures.value (rw (eq-eqb _ 1 c.if-each-eq1.true) (ap (λ (v : Value). v.next) c.flag-v.ensures.value))
+returns-then-each-eq1 c = via _ c.bits_of-each.ensures.value (rw (eq-eqb _ 1 c.if-each-eq1.true) (ap (λ (v : Value). v.next) c.flag.ensures.value))
 
 pub returns-then-size-eq0 : goal.returns-then-size-eq0
 unfolding scalar_at
-returns-then-size-eq0 c = via _ c.bits_of-each.ensures.value (rw (ne_eqb _ 1 c.if-each-eq1.false, eq-eqb _ 0 c.if-size-eq0.true) (ap (λ (t : Text). t.next) c.string-t.ensures.value))
+returns-then-size-eq0 c = via _ c.bits_of-each.ensures.value (rw (ne_eqb _ 1 c.if-each-eq1.false, eq-eqb _ 0 c.if-size-eq0.true) (ap (λ (t : Text). t.next) c.string.ensures.value))
 
-pub returns : goal.returns
+pub returns-else-size-eq0 : goal.returns-else-size-eq0
 unfolding scalar_at
-returns c = via _ c.bits_of-each.ensures.value (rw (ne_eqb _ 1 c.if-each-eq1.false, ne_eqb _ 0 c.if-size-eq0.false) c.skip.ensures)
+returns-else-size-eq0 c = via _ c.bits_of-each.ensures.value (rw (ne_eqb _ 1 c.if-each-eq1.false, ne_eqb _ 0 c.if-size-eq0.false) c.skip.ensures)

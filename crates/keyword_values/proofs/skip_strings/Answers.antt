@@ -8,21 +8,15 @@ use Rattle.keyword_rules.specs.Values.{strings_at}
 use Rattle.keyword_values.proofs.skip_strings.Goals as goal
 
 pub loop-i-init : goal.loop-i-init
-loop-i-init c = (omega arith, after_none _ _)
+loop-i-init c = after_none _ _
 
-pub returns-then-refused-ne0 : goal.returns-then-refused-ne0
+pub returns-then-d-ne0 : goal.returns-then-d-ne0
 unfolding strings_at
-returns-then-refused-ne0 c = stop _ (λ d j. (string_reads _ d 0 4096).keeps) _ _ _ c.loop-i.invariant.1 c.loop-i.invariant.0 c.if-refused-ne0.true
-
-pub overflow_add-i : goal.overflow_add-i
-overflow_add-i c = omega arith
-
-pub loop-i-smaller : goal.loop-i-smaller
-loop-i-smaller c = omega arith
+returns-then-d-ne0 c = stop _ (λ d j. (string_reads _ d 0 4096).keeps) _ _ _ c.loop-i.invariant (omega arith) c.if-d-ne0.true
 
 pub loop-i-preserved : goal.loop-i-preserved
-loop-i-preserved c = (omega arith, after_more _ _ _ c.loop-i.invariant.1 (ap (λ (t : Text). t.next) c.string-t.ensures.value))
+loop-i-preserved c = after_more _ _ _ c.loop-i.invariant (ap (λ (t : Text). t.next) c.string.ensures.value)
 
-pub returns : goal.returns
+pub returns-after-loop-i : goal.returns-after-loop-i
 unfolding strings_at
-returns c = after_all _ _ _ _ c.loop-i.invariant.1 (omega arith) (omega arith)
+returns-after-loop-i c = after_all _ _ _ _ c.loop-i.invariant (omega arith) (omega arith)

@@ -5,6 +5,4 @@ use Rattle.keywords.proofs.walk_set.Goals as goal
 
 pub returns : goal.returns
 unfolding walked_at
-returns c =
-    rw (← c.between-c.ensures, ← c.between-p.ensures, ← c.no_field-none.ensures) (
-    via _ c.enter_whole-b.ensures c.walk.ensures)
+returns c = rw (← c.between-c.ensures, ← c.between-p.ensures) (via _ c.enter_whole-b.ensures c.walk.ensures)

@@ -11,10 +11,8 @@ use lib.Dec.{T}
 use lib.ListN.{length, get_or, replicate, length-append}
 use borrow.Author.Tests.{eq-eqb, ne_eqb}
 use Rattle.bytes_at.specs.declared.Refusal.{Refusal}
-use Rattle.bytes_at.specs.Stages.{no_refusal}
 use Rattle.bytes_at.specs.Steps.{◌>>=◌}
 use Rattle.table_rules.specs.declared.Column.{Column}
-use Rattle.table_rules.specs.ColumnDesc.{no_column}
 use Rattle.table_rules.specs.declared.Binding.{Binding}
 use Rattle.table_rules.specs.declared.Description.{Description}
 use Rattle.table_rules.specs.Table.{described_as, column_in, binding_in}
@@ -34,7 +32,7 @@ use Rattle.incremental_rules.proofs.Places.{by_there}
 use Rattle.standard_rules.specs.Looks.{Looks, looks_of}
 use Rattle.standard_rules.specs.declared.Entry.{Entry}
 use Rattle.standard.specs.declared.Located.{Located}
-use Rattle.standard.specs.Bit.{by_halving, local_by, bit_by_halving, located_by, no_cell}
+use Rattle.standard.specs.Bit.{by_halving, local_by, bit_by_halving, located_by}
 use Rattle.standard.proofs.place.Bits.{bit_is, looks_are, local_below, entry_known, some_entry}
 use Rattle.standard.proofs.place.Padded.{bit_same, local_same, halving_same}
 use Rattle.lookup_rules.specs.declared.Plan.{Plan}
@@ -43,7 +41,7 @@ use Rattle.lookup_rules.specs.declared.Request.{Request}
 use Rattle.lookup_rules.specs.declared.FileChecked.{FileChecked}
 use Rattle.lookup_rules.specs.declared.Staged.{Staged}
 use Rattle.lookup_rules.specs.declared.Answer.{Answer}
-use Rattle.lookup_rules.specs.Questions.{request_of, target_of, of_standard, file_of, plan_for, stages_of, place_in, looks_in, no_plan, no_bits, no_looks, answered, answer_for, answer_of}
+use Rattle.lookup_rules.specs.Questions.{request_of, target_of, of_standard, file_of, plan_for, stages_of, place_in, looks_in, no_bits, no_looks, answered, answer_for, answer_of}
 use Rattle.lookup_rules.proofs.CellAsked.{Cell, cell_asked, cell_sequence, cell_column, cell_row}
 use Rattle.standard_rules.proofs.Columns.{column_kept, column_same}
 use Rattle.table_rules.proofs.Described.{described}
@@ -220,45 +218,6 @@ module _ (y : List ℕ) (s : Staged) (r : Request) where
   cell_there : s.refused.number ≡ 0 → r.cell ≡ true → s.incremental ≡ true → cell_found y s r ≡ there
   unfolding cell_found
   cell_there z w k = rw (eq-eqb s.refused.number 0 z, w, k)
-
-  pub cell_refused : {x : Located} → x ≡ no_cell → (s.refused.number ≡ 0 → ⊥) → x ≡ cell_found y s r
-  unfolding cell_found
-  cell_refused e n = rw (ne_eqb s.refused.number 0 n) e
-
-  pub cell_none : {x : Located} → x ≡ no_cell → s.refused.number ≡ 0 → r.cell ≡ false → x ≡ cell_found y s r
-  unfolding cell_found
-  cell_none e z n = rw (eq-eqb s.refused.number 0 z, n) e
-
-  module _ (z : s.refused.number ≡ 0) (w : r.cell ≡ true) where
-    pub found_there : s.incremental ≡ true → there ≡ cell_found y s r
-    found_there i = sym (cell_there z w i)
-
-    module _ (i : s.incremental ≡ false) (h : s.refused.number ≡ 0 → r.cell ≡ true → s.incremental ≡ false → Findable y s r.row) where
-      pub can_find : Findable y s r.row
-      can_find = h z w i
-
-      pub found_here : {x : Located} → (0 < s.set.entries → x ≡ here) → x ≡ cell_found y s r
-      found_here f = f can_find.some ∙ sym (cell_here z w i)
-
--- ---- `answer`
-module _ (r : Request) (s : Staged) (x : Located) where
-  pub answer_refused : {p : Plan} {c : Column} → p ≡ no_plan → c ≡ no_column → (s.refused.number ≡ 0 → ⊥)
-      → record { refused = s.refused; size = 0; plan = p; column = c; first = 0; count = 0; looks = 0; entries = 0 } ≡ answer_with r s x
-  unfolding answered
-  answer_refused e i n = rw (ne_eqb s.refused.number 0 n, e, i)
-
-  pub answer_cell : {p : Plan} {c : Column} → s.refused.number ≡ 0 → r.cell ≡ true → p ≡ cond r.column s.plan no_plan
-      → c ≡ cond r.column s.column no_column
-      → record { refused = no_refusal; size = s.plan.size; plan = p; column = c; first = x.first; count = s.plan.bits; looks = x.looks; entries = x.entries }
-      ≡ answer_with r s x
-  unfolding answered
-  answer_cell z k e i = rw (eq-eqb s.refused.number 0 z, k, e, i)
-
-  pub answer_none : {p : Plan} {c : Column} → s.refused.number ≡ 0 → r.cell ≡ false → p ≡ cond r.column s.plan no_plan
-      → c ≡ cond r.column s.column no_column
-      → record { refused = no_refusal; size = s.plan.size; plan = p; column = c; first = 0; count = 0; looks = 0; entries = 0 } ≡ answer_with r s x
-  unfolding answered
-  answer_none z k e i = rw (eq-eqb s.refused.number 0 z, k, e, i)
 
 -- ---- the answer, by what the calls of `ask` give
 -- a refusal carries no bits and no looks, nor does a question that asks for no cell

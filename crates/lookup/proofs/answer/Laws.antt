@@ -25,13 +25,6 @@ kept_second : (n : ℕ) (i : Bool) → eqb n 0 && not i ≡ true → i ≡ false
 kept_second n false h = refl
 kept_second n true h = elim (ℕ_discrete n 0) [ yes e ↦ absurd (false≢true (rw (eq-eqb n 0 e) at h)) | no x ↦ absurd (false≢true (rw (ne_eqb n 0 x) at h)) ]
 
--- `keeps_text`
-pub keeps_refused : (s : Staged) → (s.refused.number ≡ 0 → ⊥) → false ≡ keeps_text s
-keeps_refused s n = rw (ne_eqb s.refused.number 0 n)
-
-pub keeps_other : (s : Staged) {k : Bool} → s.refused.number ≡ 0 → k ≡ not s.incremental → k ≡ keeps_text s
-keeps_other s z e = rw (eq-eqb s.refused.number 0 z) e
-
 -- a room that is kept or cleared
 module _ (t f : List ℕ) (r : Request) (l : ℕ) where
   room_by : {s : Staged} {x x' : List ℕ} → s ≡ stages_of t f r l

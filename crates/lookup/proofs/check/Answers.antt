@@ -1,12 +1,8 @@
 -- `lookup::check` meets its contract.
-use mathlib.Core.Path.{ap, ◌∙◌}
-use Rattle.lookup_rules.specs.Answers.{verdict_of}
-use Rattle.lookup_rules.specs.declared.Question.TheVariants.{Check}
-use Rattle.lookup.proofs.Says.{verdict_says}
+use Rattle.lookup_rules.proofs.Said.{says_of}
 use Rattle.lookup.proofs.check.Goals as goal
 
-pub returns : goal.returns
-returns c =
-    let a = c.args in
-    let asked = c.ask-a.ensures in
-    verdict_says _ _ (Check a.sequence) _ asked.1 (c.verdict.ensures ∙ ap verdict_of asked.0)
+pub returns-clause-says : goal.returns-clause-says
+returns-clause-says c =
+    let says = says_of _ _ _ _ c.ask-a.ensures.0 in
+    rw (c.verdict.ensures, ← c.ask-a.ensures.0) says.verdict

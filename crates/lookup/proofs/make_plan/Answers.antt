@@ -1,12 +1,8 @@
 -- `lookup::make_plan` meets its contract.
-use mathlib.Core.Path.{ap, ◌∙◌}
-use Rattle.lookup_rules.specs.Answers.{planned_of}
-use Rattle.lookup_rules.specs.declared.Question.TheVariants.{Prepare}
-use Rattle.lookup.proofs.Says.{planned_says}
+use Rattle.lookup_rules.proofs.Said.{says_of}
 use Rattle.lookup.proofs.make_plan.Goals as goal
 
-pub returns : goal.returns
-returns c =
-    let a = c.args in
-    let asked = c.ask-a.ensures in
-    planned_says _ _ (Prepare a.position) _ asked.1 (c.planned.ensures ∙ ap planned_of asked.0)
+pub returns-clause-says : goal.returns-clause-says
+returns-clause-says c =
+    let says = says_of _ _ _ _ c.ask-a.ensures.0 in
+    rw (c.planned.ensures, ← c.ask-a.ensures.0) (says.planned, says.plan)

@@ -1,13 +1,12 @@
 -- `lookup::place_in_bucket` meets its contract.
-use mathlib.Core.Path.{ap, ◌∙◌}
-use Rattle.lookup_rules.specs.Answers.{placed_in_bucket_of}
-use Rattle.lookup_rules.specs.declared.Question.TheVariants.{PlaceInBucket}
 use Rattle.lookup_rules.proofs.OneBucket.{every_one_bucket}
-use Rattle.lookup.proofs.Says.{in_bucket_says}
+use Rattle.lookup_rules.proofs.Said.{says_of}
 use Rattle.lookup.proofs.place_in_bucket.Goals as goal
 
-pub returns : goal.returns
-returns c = let a = c.args in
-    let asked = c.ask-a.ensures in
-    let said = in_bucket_says _ _ (PlaceInBucket a.row a.position) _ asked.1 (c.placed_in_bucket.ensures ∙ ap placed_in_bucket_of asked.0) in
-    record { value = said.0; says = said.1; one = every_one_bucket _ _ _ _ _ }
+pub returns-clause-says : goal.returns-clause-says
+returns-clause-says c =
+    let says = says_of _ _ _ _ c.ask-a.ensures.0 in
+    rw (c.placed_in_bucket.ensures, ← c.ask-a.ensures.0) (says.in_bucket, says.in_bucket_bits, says.in_bucket_size)
+
+pub returns-clause-one : goal.returns-clause-one
+returns-clause-one c = every_one_bucket _ _ _ _ _

@@ -2,19 +2,22 @@
 -- Assumes nothing.
 use mathlib.Core.Path.{◌≡◌, refl, sym, ap, ◌∙◌}
 use mathlib.Core.Bool.{Bool, true, false, cond, ◌&&◌}
-use mathlib.Core.List.{List}
-use Prim.Native.Nat.{ℕ, zero, suc, ◌+◌, ◌-◌, ◌≤◌, ◌<◌, zero-le}
+use mathlib.Core.List.{List, [], ◌∷◌}
+use Prim.Native.Nat.{ℕ, zero, suc, ◌+◌, ◌≤◌, ◌<◌, zero-le}
 use native.Mathlib.Decide.{ℕ_discrete, dec_lt}
 use native.Mathlib.Numerals.{add-one}
 use native.Mathlib.Omega.{arith}
-use lib.ListN.{length, get_or, replicate, length-set, get_or-replicate, get_or-eq_default}
+use lib.ListN.{length, get_or, drop, replicate, length-set, get_or-replicate, get_or-eq_default}
 use lib.Seq.{get_or-set_same, get_or-set_other}
 use lib.Dec.{eqb}
 use borrow.Author.Tests.{eq-eqb, ne_eqb}
 use Rattle.standard_rules.specs.Map.{MapColumn, bound_to}
-use Rattle.standard.specs.Columns.{column_by, columns_by, one_more, Counted, counts_fit}
+use Rattle.standard_rules.specs.declared.Set.{Set}
+use Rattle.bytes_at.specs.Lists.{all_from}
+use Rattle.std.specs.List.{list_all, zip}
+use Rattle.standard.specs.Columns.{one_more, Counted, counts_fit}
+use Rattle.standard.proofs.Each.{drop_at}
 use Rattle.standard.proofs.columns.Listed.{listed}
-use Rattle.standard.proofs.columns.Facts.{columns_listed}
 
 -- one more where a test passes
 abbrev more : Bool → ℕ → ℕ
@@ -56,6 +59,10 @@ one_more_length : (kept : Bool) (s : ℕ) (counts : List ℕ) → length (one_mo
 one_more_length true s counts = length-set counts s (get_or counts s 0 + 1)
 one_more_length false s counts = refl
 
+zip_none : {A B : Type 0} (xs : List A) → zip {K = A} {X = B} xs [] ≡ []
+zip_none [] = refl
+zip_none (x ∷ xs) = refl
+
 -- ---- counting: of the columns f 0, f 1, .., n in all, the first i are counted
 pub record Counting (f : ℕ → MapColumn) (n : ℕ) (counts : List ℕ) (i : ℕ) : Type 0 where
   pub within : i ≤ n
@@ -91,36 +98,17 @@ module _ {f : ℕ → MapColumn} {n : ℕ} {counts : List ℕ} {i : ℕ} (v : Co
             ∙ ap (λ j. bound_to k (listed f j 0)) (sym (add-one i));
       }
 
-pub counting_end : (kept : List Bool) (sets offsets bits : List ℕ) {counts : List ℕ} {n i : ℕ} → Counting (column_by kept sets offsets bits) n counts i → n ≤ i
-    → Counted counts (columns_by kept sets offsets bits n 0)
-counting_end kept sets offsets bits {counts} {n} {i} v h =
-    let e : i ≡ n = omega (arith, v.within) in
-    rw (columns_listed kept sets offsets bits n 0, ← e) v.counted
+-- ---- comparing: whatever columns the counts are of, each count with its set
+abbrev pub alike : ℕ × Set → Bool
+alike p = eqb p.0 p.1.columns
 
--- ---- comparing: whatever columns the counts are of, the test of the sets from k on is the test of all
-pub record Comparing (counts columns : List ℕ) (m k : ℕ) : Type 0 where
-  pub within : k ≤ m
-  pub same : (l : List MapColumn) → Counted counts l → counts_fit l columns m 0 ≡ counts_fit l columns (m - k) k
+compared_from : (counts : List ℕ) (l : List MapColumn) → length counts ≡ 16 → Counted counts l → (sets : List Set) (k : ℕ) → k + length sets ≤ 16
+    → list_all alike (zip (drop k counts) sets) ≡ counts_fit l k sets
+unfolding all_from
+compared_from counts l long w [] k h = rw (zip_none (drop k counts))
+compared_from counts l long w (s ∷ sets) k h =
+    rw (drop_at 0 counts k (omega (arith, long)), add-one, compared_from counts l long w sets (suc k) (omega arith), w k (omega arith))
 
-pub comparing_start : (counts columns : List ℕ) (m : ℕ) → Comparing counts columns m 0
-comparing_start counts columns m =
-    let e : m ≡ m - 0 = omega arith in
-    record { within = zero-le; same = λ l w. ap (λ j. counts_fit l columns j 0) e }
-
-module _ {counts columns : List ℕ} {m k : ℕ} (v : Comparing counts columns m k) where
-  one : (l : List MapColumn) → Counted counts l → m ≤ 16 → k < m
-      → counts_fit l columns m 0 ≡ (eqb (get_or counts k 0) (get_or columns k 0) && counts_fit l columns (m - (k + 1)) (k + 1))
-  unfolding counts_fit
-  one l w g h =
-      let e : m - k ≡ suc (m - (k + 1)) = omega arith in
-      v.same l w ∙ rw (e, add-one, w k (omega arith))
-
-  pub comparing_again : m ≤ 16 → k < m → get_or counts k 0 ≡ get_or columns k 0 → Comparing counts columns m (k + 1)
-  comparing_again g h q = record { within = omega arith; same = λ l w. one l w g h ∙ rw (eq-eqb (get_or counts k 0) (get_or columns k 0) q) }
-
-  pub comparing_not : m ≤ 16 → k < m → (get_or counts k 0 ≡ get_or columns k 0 → ⊥) → (l : List MapColumn) → Counted counts l → false ≡ counts_fit l columns m 0
-  comparing_not g h q l w = sym (one l w g h ∙ rw (ne_eqb (get_or counts k 0) (get_or columns k 0) q))
-
-  pub comparing_end : m ≤ k → (l : List MapColumn) → Counted counts l → true ≡ counts_fit l columns m 0
-  unfolding counts_fit
-  comparing_end h l w = let e : m - k ≡ 0 = omega arith in sym (v.same l w ∙ rw e)
+pub compared : (counts : List ℕ) (sets : List Set) → length counts ≡ 16 → length sets ≤ 16 → (l : List MapColumn) → Counted counts l
+    → list_all alike (zip counts sets) ≡ counts_fit l 0 sets
+compared counts sets long h l w = compared_from counts l long w sets 0 (omega arith)

@@ -1,74 +1,71 @@
--- The loop that places the columns. Assumes nothing.
-use mathlib.Core.Path.{◌≡◌, sym, ap, ◌∙◌}
-use mathlib.Core.Bool.{Bool, true, ◌&&◌}
-use mathlib.Core.List.{List, map}
-use Prim.Native.Nat.{ℕ, ◌+◌, ◌≤◌, ◌<◌, zero-le}
+-- The columns of a table by position, and the loop that places them. Assumes nothing.
+use mathlib.Core.Path.{◌≡◌, refl, sym, ap, ◌∙◌}
+use mathlib.Core.Bool.{Bool, true, false, ◌&&◌}
+use mathlib.Core.List.{List, [], ◌∷◌, ◌++◌}
+use Prim.Native.Nat.{ℕ, zero, suc, ◌+◌, ◌<◌}
+use native.Mathlib.Numerals.{add-one}
 use native.Mathlib.Omega.{arith}
-use lib.ListN.{get_or, set, replicate}
-use lib.Dec.{leb, ltb}
+use lib.ListN.{length, get_or, set, take, replicate, length-set, length-replicate}
+use lib.Dec.{ltb}
 use Rattle.bytes_at.specs.Lists.{◌⇒◌, all}
-use Rattle.standard_rules.specs.Map.{MapColumn, Extent, set_known, in_bucket, extent_end}
-use Rattle.standard.specs.Columns.{extent_at, extents_from, column_by, columns_by, extent_by, extents_by}
-use Rattle.standard.proofs.columns.Listed.{listed_same, listed_map, all_both, all_map, passed, passed_none, passed_more, passed_all, filled, filled_none, filled_more, filled_at}
-use Rattle.standard.proofs.columns.Facts.{columns_listed, extents_listed}
+use Rattle.table_rules.specs.declared.Column.{Column}
+use Rattle.table_rules.specs.declared.Binding.{Binding}
+use Rattle.table_rules.specs.ColumnDesc.{no_column}
+use Rattle.table_rules.specs.ColumnSet.{no_binding}
+use Rattle.standard_rules.specs.declared.Set.{Set}
+use Rattle.standard_rules.specs.declared.Extent.{Extent}
+use Rattle.standard_rules.specs.Map.{MapColumn, map_column, columns_from, set_known, in_bucket}
+use Rattle.standard.specs.Columns.{per_of, extent_by, extents_by}
+use Rattle.standard.proofs.columns.Listed.{listed, listed_more, all_more, all_stop, all_both, all_map}
 
-same_end : {a : Bool} {k p d e : ℕ} → d ≡ e → ◌≡◌ {A = Extent} (record { kept = a; set = k; start = p; end = d }) (record { kept = a; set = k; start = p; end = e })
-same_end h = cc
+-- the column at a position
+abbrev pub column_in : ℕ → List Column → List Binding → ℕ → MapColumn
+column_in sequence cs bs j = map_column sequence (get_or cs j no_column) (get_or bs j no_binding)
+
+pub from_listed : (sequence : ℕ) (cs : List Column) (bs : List Binding) (n i : ℕ) → columns_from sequence cs bs n i ≡ listed (column_in sequence cs bs) n i
+unfolding columns_from listed
+from_listed sequence cs bs zero i = refl
+from_listed sequence cs bs (suc n) i = ap (λ l. column_in sequence cs bs i ∷ l) (from_listed sequence cs bs n (suc i))
+
+-- one element more
+take_set : {A : Type 0} (xs : List A) (i : ℕ) (x : A) → i < length xs → take (suc i) (set xs i x) ≡ take i xs ++ x ∷ []
+take_set [] i x h = absurd (omega arith)
+take_set (y ∷ xs) zero x h = refl
+take_set (y ∷ xs) (suc i) x h = ap (λ l. y ∷ l) (take_set xs i x (omega arith))
 
 -- the first i columns are placed
-module _ (kept : List Bool) (sets offsets bits pers : List ℕ) (m size : ℕ) where
-  abbrev column_in : ℕ → MapColumn
-  column_in = column_by kept sets offsets bits
+module _ (f : ℕ → MapColumn) (sets : List Set) (size : ℕ) where
+  abbrev pub placed_in : MapColumn → Bool
+  placed_in c = set_known (length sets) c && in_bucket size (extent_by (per_of sets) c)
 
-  abbrev per : ℕ → ℕ
-  per k = get_or pers k 0
+  pub record Placing (extents : List Extent) (i : ℕ) : Type 0 where
+    pub long : length extents ≡ 64
+    pub places : take i extents ≡ listed (λ j. extent_by (per_of sets) (f j)) i 0
+    pub fit : all placed_in (listed f i 0) ≡ true
 
-  abbrev fits_in : MapColumn → Bool
-  fits_in c = set_known m c && in_bucket size (extent_by per c)
+  pub placing_start : (x : Extent) → Placing (replicate 64 x) 0
+  unfolding listed all
+  placing_start x = record { long = length-replicate 64 x; places = refl; fit = refl }
 
-  pub record Placing (n : ℕ) (fit : Bool) (ends : List ℕ) (i : ℕ) : Type 0 where
-    pub within : i ≤ n
-    pub fit_is : fit ≡ passed (λ j. fits_in (column_in j)) i
-    pub ends_is : ends ≡ filled (λ j. (extent_by per (column_in j)).end) (replicate 64 0) i
+  module _ {extents : List Extent} {i : ℕ} (v : Placing extents i) {x : Extent} {r : Bool} (e : x ≡ extent_by (per_of sets) (f i))
+      (p : r ≡ ((x.kept ⇒ ltb x.set (length sets)) && in_bucket size x)) where
+    same : r ≡ placed_in (f i)
+    same = p ∙ ap (λ (y : Extent). (y.kept ⇒ ltb y.set (length sets)) && in_bucket size y) e
 
-  pub placing_start : (n : ℕ) → Placing n true (replicate 64 0) 0
-  placing_start n = record { within = zero-le; fit_is = passed_none _; ends_is = filled_none _ _ }
-
-  module _ {n : ℕ} {fit : Bool} {ends : List ℕ} {i : ℕ} (v : Placing n fit ends i) where
-    pub placing_again : {each end : ℕ} {ok fit' : Bool} → i < n → each ≡ per (column_in i).set
-        → end ≡ extent_end (column_in i).offset each (column_in i).bits
-        → ok ≡ (((column_in i).kept ⇒ ltb (column_in i).set m) && ((column_in i).kept ⇒ leb end size))
-        → fit' ≡ (fit && ok)
-        → Placing n fit' (set ends i end) (i + 1)
-    unfolding in_bucket
-    placing_again h p e o q =
-        let x = e ∙ ap (λ k. extent_end (column_in i).offset k (column_in i).bits) p in
+    pub placing_again : i < 64 → r ≡ true → Placing (set extents i x) (i + 1)
+    placing_again h t =
+        let z : i + 0 ≡ i = omega arith in
         record {
-          within = omega arith;
-          fit_is = passed_more _ i v.fit_is (o ∙ rw x) q;
-          ends_is = filled_more _ _ i v.ends_is x;
+          long = length-set extents i x ∙ v.long;
+          places = rw add-one (take_set extents i x (omega (arith, v.long)) ∙ rw (v.places, e) (sym (listed_more (λ j. extent_by (per_of sets) (f j)) i 0 ∙ rw z)));
+          fit = rw add-one (all_more f placed_in i 0 ∙ rw (v.fit, z, ← same) t);
         }
 
-    module _ (h : n ≤ i) where
-      all_in : i ≡ n
-      all_in = omega (arith, v.within)
+    pub placing_stop : (n : ℕ) → i < n → r ≡ false → all placed_in (listed f n 0) ≡ false
+    placing_stop n h t = let z : i + 0 ≡ i = omega arith in all_stop f placed_in n 0 i h (rw z (sym same ∙ t))
 
-      place_at : n ≤ 64 → (j : ℕ) → j < 0 + n → extent_at kept sets offsets ends j ≡ extent_by per (column_in j)
-      place_at l j g = same_end (rw v.ends_is (filled_at _ (replicate 64 0) 0 i j (omega (arith, all_in)) (omega (arith, all_in))))
-
-      pub placing_extents : n ≤ 64 → extents_from kept sets offsets ends 0 n ≡ extents_by pers (columns_by kept sets offsets bits n 0)
-      placing_extents l =
-          extents_listed kept sets offsets ends n 0
-          ∙ listed_same (extent_at kept sets offsets ends) (λ j. extent_by per (column_in j)) n 0 (place_at l)
-          ∙ sym (listed_map column_in (extent_by per) n 0)
-          ∙ ap (map (extent_by per)) (sym (columns_listed kept sets offsets bits n 0))
-
-      pub placing_fit : fit ≡ (all (set_known m) (columns_by kept sets offsets bits n 0) && all (in_bucket size) (extents_by pers (columns_by kept sets offsets bits n 0)))
-      placing_fit =
-          let l = columns_by kept sets offsets bits n 0 in
-          v.fit_is
-          ∙ ap (passed (λ j. fits_in (column_in j))) all_in
-          ∙ passed_all column_in fits_in n
-          ∙ ap (all fits_in) (sym (columns_listed kept sets offsets bits n 0))
-          ∙ all_both (set_known m) (λ c. in_bucket size (extent_by per c)) l
-          ∙ ap (λ b. all (set_known m) l && b) (sym (all_map (in_bucket size) (extent_by per) l))
+  -- of a list of columns
+  pub placed_test : (l : List MapColumn) → all placed_in l ≡ (all (set_known (length sets)) l && all (in_bucket size) (extents_by sets l))
+  placed_test l =
+      all_both (set_known (length sets)) (λ c. in_bucket size (extent_by (per_of sets) c)) l
+      ∙ ap (λ b. all (set_known (length sets)) l && b) (sym (all_map (in_bucket size) (extent_by (per_of sets)) l))

@@ -3,7 +3,7 @@ use mathlib.Core.Path.{◌≡◌, sym, ap, ◌∙◌}
 use mathlib.Core.Bool.{Bool}
 use mathlib.Core.List.{List}
 use Prim.Native.Nat.{ℕ, ◌+◌, ◌-◌, ◌*◌, ◌≤◌, ◌<◌}
-use native.Mathlib.Nat.{mul-le-mul, add-mul}
+use native.Mathlib.Nat.{mul-le-mul}
 use native.Mathlib.Omega.{arith}
 use lib.Dec.{T}
 use lib.ListN.{length, get_or}
@@ -14,11 +14,10 @@ use Rattle.bytes_at.specs.Number.{bytes_of, int_width, int_bytes, uint_of, numbe
 use Rattle.standard_rules.specs.declared.Entry.{Entry}
 use Rattle.standard_rules.specs.Looks.{halving_of, looks_of}
 use Rattle.bytes_at.specs.declared.Width.{Width}
-use Rattle.bytes_at.proofs.Listed.{numbers_length, number_at, room_for}
+use Rattle.bytes_at.proofs.Listed.{numbers_length, number_at}
 use Rattle.standard_index.proofs.rows.Starts.{first_row_is}
 use Rattle.standard_rules.proofs.Halving.{search_entry}
 use Rattle.standard_index.specs.Rows.{first_row_in}
-use Rattle.standard_index.specs.Bounds.{SetInside}
 use Rattle.standard_rules.specs.declared.Set.{Set}
 use Rattle.standard.specs.Bit.{by_halving, local_by, bit_by_halving, located_by}
 
@@ -28,13 +27,6 @@ product m n h k = mul-le-mul h k
 
 -- a set's last rows, by their width as the code has it
 module _ (s : Set) {width : Width} (w : width ≡ int_width s.wide) where
-  pub lasts_there : {len : ℕ} → SetInside len s → s.lasts + s.entries * bytes_of width ≤ len
-  lasts_there i = rw w i.lasts_inside
-
-  -- the last rows before entry k
-  pub before_there : {len : ℕ} (k : ℕ) → SetInside len s → k < s.entries → s.lasts + k * bytes_of width ≤ len
-  before_there k i h = omega (arith, add-mul k 1 (bytes_of width), room_for s.lasts s.entries k (bytes_of width) h (lasts_there i))
-
   module _ (big : Bool) (text : List ℕ) (row : ℕ) {e : Entry} {r : ℕ} (p : e ≡ halving_of (numbers_at big (bytes_of width) text s.lasts s.entries) row)
       (v : r ≡ row - first_row_in big (bytes_of width) text s.lasts e.at) where
     by_halving_lem : e ≡ by_halving big text s row
@@ -44,10 +36,6 @@ module _ (s : Set) {width : Width} (w : width ≡ int_width s.wide) where
     local_is =
         v ∙ ap (λ (x : Width). row - first_row_in big (bytes_of x) text s.lasts e.at) w
         ∙ ap (λ (x : Entry). row - first_row_in big (int_bytes s.wide) text s.lasts x.at) by_halving_lem
-
-    -- the row's number within its entry is in the range of rows per bucket
-    pub local_most : (0 < s.entries → local_by big text s row < s.per) → SetInside (length text) s → 0 < s.entries → r ≤ 8388608
-    local_most h i n = omega (arith, local_is, h n, i.per_most)
 
     -- the calls' results are the definition's numbers
     pub located : (size offset bits : ℕ) {b : ℕ} → b ≡ uint_of big 4 text (s.buckets + e.at * 4)

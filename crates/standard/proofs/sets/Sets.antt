@@ -1,56 +1,57 @@
--- Sets that are given by position, one after the other. Assumes nothing.
-use mathlib.Core.Path.{◌≡◌, refl, ap, ◌∙◌}
+-- Sets one after the other, as the map has them. Assumes nothing.
+use mathlib.Core.Path.{◌≡◌, refl, sym, ap, ◌∙◌}
 use mathlib.Core.Bool.{Bool, true, false, ◌&&◌}
-use mathlib.Core.List.{List, [], ◌++◌, append_assoc}
-use Prim.Native.Nat.{ℕ, zero, suc, ◌+◌, ◌-◌, ◌≤◌, ◌<◌}
-use native.Mathlib.Nat.{not-suc-le-zero}
-use native.Mathlib.Numerals.{add-one, sub-one}
-use lib.ListN.{get_or, replicate}
-use Rattle.standard_rules.specs.Map.{covers}
+use mathlib.Core.List.{List, [], ◌++◌, map, append_assoc}
+use Prim.Native.Nat.{ℕ, zero, suc, ◌+◌, ◌≤◌, ◌<◌}
+use native.Mathlib.Omega.{arith}
+use lib.Dec.{eqb}
+use lib.ListN.{length, get_or, take, drop, replicate}
+use borrow.Author.Tests.{eq-eqb}
+use Rattle.standard_rules.specs.declared.Set.{Set}
+use Rattle.standard_rules.specs.Index.{no_set}
+use Rattle.standard_rules.specs.Map.{covers, map_set, set_fits, data_of, sets_from}
 use Rattle.bytes_at.specs.Lists.{all_apart}
+use Rattle.bytes_at.proofs.Listed.{numbers_length}
 use Rattle.buckets.proofs.marks.Decided.{marks_no, marks_all}
 use Rattle.buckets.proofs.marks.Marking.{Marks, marks_then}
 use Rattle.bytes_at.specs.declared.Width.{Width}
 use Rattle.bytes_at.specs.Number.{bytes_of, int_width, int_bytes, numbers_at}
-use Rattle.standard.specs.Sets.{rows_fit, data_by}
+use Rattle.standard.proofs.Each.{drop_at, drop_end}
 
-module _ (rows : ℕ) (big : Bool) (text entries pers : List ℕ) (wides : List Bool) (lasts : List ℕ) where
-  pub fit_none : (m k : ℕ) → m ≤ 0 → rows_fit rows big text entries pers wides lasts m k ≡ true
-  unfolding rows_fit
-  fit_none zero k h = refl
-  fit_none (suc m) k h = absurd (not-suc-le-zero h)
+and_true : (b : Bool) → b && true ≡ b
+and_true true = refl
+and_true false = refl
 
-  -- one set more, by the width of its last rows as the code has it
-  module _ (m k : ℕ) {width : Width} {r : Bool} (h : 0 < m) (w : width ≡ int_width (get_or wides k false))
-      (e : r ≡ covers rows (get_or pers k 0) 0 (numbers_at big (bytes_of width) text (get_or lasts k 0) (get_or entries k 0))) where
-    fits_is : r ≡ covers rows (get_or pers k 0) 0 (numbers_at big (int_bytes (get_or wides k false)) text (get_or lasts k 0) (get_or entries k 0))
-    fits_is = e ∙ ap (λ (x : Width). covers rows (get_or pers k 0) 0 (numbers_at big (bytes_of x) text (get_or lasts k 0) (get_or entries k 0))) w
+module _ (big : Bool) (text : List ℕ) where
+  -- both Blocks have as many elements as there are entries; the width of the last rows is as the code has it
+  pub fit_is : (rows : ℕ) (s : Set) {width : Width} {r : Bool} → width ≡ int_width s.wide
+      → r ≡ covers rows s.per 0 (numbers_at big (bytes_of width) text s.lasts s.entries) → r ≡ set_fits rows (map_set big text s)
+  fit_is rows s {width} {r} w e =
+      let same : eqb (length (numbers_at big 4 text s.buckets s.entries)) (length (numbers_at big (int_bytes s.wide) text s.lasts s.entries)) ≡ true
+      = eq-eqb _ _ (numbers_length big 4 text s.buckets s.entries ∙ sym (numbers_length big (int_bytes s.wide) text s.lasts s.entries)) in
+      e ∙ ap (λ (x : Width). covers rows s.per 0 (numbers_at big (bytes_of x) text s.lasts s.entries)) w
+      ∙ rw same (sym (and_true (covers rows s.per 0 (numbers_at big (int_bytes s.wide) text s.lasts s.entries))))
 
-    fit_more : rows_fit rows big text entries pers wides lasts m k ≡ r && rows_fit rows big text entries pers wides lasts (m - 1) (k + 1)
-    unfolding rows_fit
-    fit_more = more m h
-      where
-        more : (n : ℕ) → 0 < n → rows_fit rows big text entries pers wides lasts n k ≡ r && rows_fit rows big text entries pers wides lasts (n - 1) (k + 1)
-        more zero g = absurd (not-suc-le-zero g)
-        more (suc n) g = rw (sub-one, add-one, fits_is)
+  pub data_more : (sets : List Set) (k : ℕ) → k < length sets
+      → data_of (map (map_set big text) (drop k sets))
+      ≡ numbers_at big 4 text (get_or sets k no_set).buckets (get_or sets k no_set).entries ++ data_of (map (map_set big text) (drop (k + 1) sets))
+  unfolding data_of
+  data_more sets k h = rw (drop_at no_set sets k h)
 
-    pub fit_on : r ≡ true → rows_fit rows big text entries pers wides lasts m k ≡ rows_fit rows big text entries pers wides lasts (m - 1) (k + 1)
-    fit_on t = fit_more ∙ rw t
+  pub data_none : (sets : List Set) (k : ℕ) → length sets ≤ k → data_of (map (map_set big text) (drop k sets)) ≡ []
+  unfolding data_of
+  data_none sets k h = rw (drop_end sets k h)
 
-    pub fit_off : r ≡ false → rows_fit rows big text entries pers wides lasts m k ≡ false
-    fit_off t = fit_more ∙ rw t
+  -- the sets of a map, of a list that has more places
+  sets_after : (sets : List Set) (n i : ℕ) → i + n ≤ length sets → sets_from big text sets n i ≡ map (map_set big text) (take n (drop i sets))
+  unfolding sets_from
+  sets_after sets zero i h = refl
+  sets_after sets (suc n) i h =
+      let e : i + 1 ≡ suc i = omega arith in
+      rw (drop_at no_set sets i (omega arith), e, sets_after sets n (suc i) (omega arith))
 
-module _ (big : Bool) (text entries buckets : List ℕ) where
-  pub data_none : (m k : ℕ) → m ≤ 0 → data_by big text entries buckets m k ≡ []
-  unfolding data_by
-  data_none zero k h = refl
-  data_none (suc m) k h = absurd (not-suc-le-zero h)
-
-  pub data_more : (m k : ℕ) → 0 < m
-      → data_by big text entries buckets m k ≡ numbers_at big 4 text (get_or buckets k 0) (get_or entries k 0) ++ data_by big text entries buckets (m - 1) (k + 1)
-  unfolding data_by
-  data_more zero k h = absurd (not-suc-le-zero h)
-  data_more (suc m) k h = rw (sub-one, add-one)
+  pub sets_are : (sets : List Set) (n : ℕ) → n ≤ length sets → sets_from big text sets n 0 ≡ map (map_set big text) (take n sets)
+  sets_are sets n h = sets_after sets n 0 (omega arith)
 
 -- the marks of three lists, one after the other, decide the rule
 module _ (nb : ℕ) (h : nb ≤ 4096) (xs ys zs : List ℕ) where

@@ -96,5 +96,8 @@ module _ {big : Bool} {w : ℕ} {s : List ℕ} {at n row most first last looks :
   bounded_one e h = let r = halving_end v.halving h in record { value = r.0; known = (r.1, omega (arith, v.left)) }
 
   pub bounded_end : most ≡ bit_length (n - 1) → most ≤ looks
-      → record { value : record { at = first; looks = looks } ≡ halving_of (numbers_at big w s at n) row; known : (first < n) × (looks ≤ bit_length (n - 1)) }
-  bounded_end e h = bounded_one e (spent h)
+      → record { value : record { at = first; looks = most } ≡ halving_of (numbers_at big w s at n) row; known : (first < n) × (most ≤ bit_length (n - 1)) }
+  bounded_end e h =
+      let z : most ≡ looks = omega (arith, v.left) in
+      let r = halving_end v.halving (spent h) in
+      record { value = rw z r.0; known = (r.1, omega arith) }

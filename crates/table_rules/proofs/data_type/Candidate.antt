@@ -13,11 +13,11 @@ use Rattle.bytes_at.specs.Lists.{first_from, first_below}
 use Rattle.bytes_at.proofs.Searched.{searched_here, searched_out}
 use Rattle.table_rules.specs.DataType.{type_place, type_name, filled, is_name, nth_row, nth_type, with_number, with_name}
 use Rattle.table_rules.specs.declared.data_type.DataType.{DataType}
-use Rattle.table_rules.specs.declared.data_type.Known.{Known}
-use Rattle.table_rules.specs.declared.data_type.Known.TheVariants.{Of, Nothing}
+use Rattle.std.specs.Prelude.{Option, Some, None, MatchOption}
+use Rattle.std.specs.Bool.{then_some}
 use Rattle.table_rules.proofs.data_type.Cases.{Each, each, passed, none_first}
 use Rattle.table_rules.proofs.data_type.Names.{name_is}
-use Rattle.table_rules.proofs.data_type.Table.{number_of, number_none}
+use Rattle.table_rules.proofs.data_type.Table.{place_back, number_of, number_none}
 
 -- the fourth letter of each name but Int, which has three; uChar and float share theirs
 abbrev letters : List ℕ
@@ -58,11 +58,6 @@ module _ (s : List ℕ) where
   pub no_letter : Each (λ (i : ℕ). get_or s 3 0 ≡ get_or letters i 0 → ⊥) 10 → Candidate s 5
   no_letter h = let e = none_first (get_or s 3 0) (λ (i : ℕ). get_or letters i 0) 10 h in candidate (rw e)
 
--- a type's number stands for its place
-place_back : (i : ℕ) → i < 12 → type_place (nth_row i).number ≡ i
-unfolding type_place first_from
-place_back = each (λ (i : ℕ). type_place (nth_row i).number ≡ i) 12 (search depth 14)
-
 name_of : (i : ℕ) → i < 12 → type_name (nth_type i) ≡ (nth_row i).name
 unfolding type_name
 name_of i h = ap (λ (j : ℕ). (nth_row j).name) (place_back i h)
@@ -72,24 +67,24 @@ not_so true h = absurd (h refl)
 not_so false h = refl
 
 -- where the bytes can be the name of the type with the number alone
-module _ (s : List ℕ) {n : ℕ} {k : Known} (p : Candidate s n) (e : k ≡ with_number n) where
+module _ (s : List ℕ) {n : ℕ} {k : Option DataType} (p : Candidate s n) (e : k ≡ with_number n) where
   abbrev test : ℕ → Bool
   test i = is_name s (nth_row i).name
 
   only : (i : ℕ) → i < 12 → test i ≡ true → type_place n ≡ i
   only i h m = rw (p i h m) (place_back i h)
 
-  nowhere : ((i : ℕ) → i < 12 → test i ≡ true → ⊥) → Nothing ≡ with_name s
+  nowhere : ((i : ℕ) → i < 12 → test i ≡ true → ⊥) → None ≡ with_name s
   unfolding with_name
   nowhere h =
       let f : 12 ≡ first_below test 12 = searched_out (passed test 12 12 (omega arith) (λ i l. not_so (test i) (h i l))) (omega arith) in
       rw (← f)
 
   -- the number is no type's
-  pub name_none : k ≡ Nothing → k ≡ with_name s
+  name_none : k ≡ None → k ≡ with_name s
   name_none q = q ∙ nowhere (λ i h m. omega (arith, number_none n (sym q ∙ e), only i h m))
 
-  module _ {t : DataType} (q : k ≡ Of t) {r : Bool} (a : r ≡ is_name s (type_name t)) where
+  module _ {t : DataType} (q : k ≡ Some t) {r : Bool} (a : r ≡ is_name s (type_name t)) where
     -- it is one's, whose name is compared
     of : (type_place n < 12) × (t ≡ nth_type (type_place n))
     of = number_of n (sym q ∙ e)
@@ -97,7 +92,7 @@ module _ (s : List ℕ) {n : ℕ} {k : Known} (p : Candidate s n) (e : k ≡ wit
     compared : test (type_place n) ≡ r
     compared = sym (rw (of.1, name_of (type_place n) of.0) at a)
 
-    pub name_found : r ≡ true → Of t ≡ with_name s
+    name_found : r ≡ true → Some t ≡ with_name s
     unfolding with_number with_name
     name_found h =
         let b : type_place n < 12 = of.0 in
@@ -105,5 +100,16 @@ module _ (s : List ℕ) {n : ℕ} {k : Known} (p : Candidate s n) (e : k ≡ wit
         let f : type_place n ≡ first_below test 12 = searched_here before b (compared ∙ h) in
         sym q ∙ e ∙ rw f
 
-    pub name_unknown : r ≡ false → Nothing ≡ with_name s
+    name_unknown : r ≡ false → None ≡ with_name s
     name_unknown h = nowhere (λ i l m. false≢true (sym (compared ∙ h) ∙ rw (only i l m) m))
+
+-- the type of the number, if the bytes are its name, as `filter` gives it
+pub filtered : (s : List ℕ) {n : ℕ} {r : Option DataType} (k : Option DataType) → Candidate s n → k ≡ with_number n
+    → (P : DataType → Bool → Type 0) → ((t : DataType) (b : Bool) → P t b → b ≡ is_name s (type_name t))
+    → MatchOption k (r ≡ None) (λ t. (b : Bool) × P t b × (r ≡ then_some b t)) → r ≡ with_name s
+filtered s None p e P f h = h ∙ name_none s p e refl
+filtered s {r = r} (Some t) p e P f (b, h, q) = pick b (f t b h) q
+  where
+    pick : (b : Bool) → b ≡ is_name s (type_name t) → r ≡ then_some b t → r ≡ with_name s
+    pick true a q = q ∙ name_found s p e refl a refl
+    pick false a q = q ∙ name_unknown s p e refl a refl

@@ -4,49 +4,33 @@ use mathlib.Core.Path.{◌≡◌, refl, sym, ap, ◌∙◌}
 use mathlib.Core.Bool.{Bool, true, false, ◌&&◌, ◌||◌, false≢true, and-eq-true_iff}
 use mathlib.Core.List.{List, [], ◌∷◌, ◌++◌}
 use mathlib.Core.Logic.{◌⊎◌, inl, inr}
-use Prim.Native.Nat.{ℕ, ◌+◌, ◌≤◌, ◌<◌}
+use Prim.Native.Nat.{ℕ, ◌+◌, ◌-◌, ◌≤◌}
 use native.Mathlib.Omega.{arith}
 use lib.Dec.{eqb}
-use lib.ListN.{length, get_or, take, drop}
-use lib.Seq.{take-take, take-append_seam, take_all, drop-cons}
+use lib.ListN.{length, take, drop, replicate}
+use lib.Seq.{take-append-add}
+use Rattle.std.proofs.lemmas.List.{take-replicate, drop-replicate}
 use borrow.Author.Tests.{eqb-true}
 use Rattle.bytes_at.specs.Bytes.{same_bytes}
-use Rattle.bytes_at.proofs.Comparing.{same_split, unequal_lengths}
 use Rattle.table_rules.specs.DataType.{filled, is_name}
-
--- fewer bytes than the text has
-pub too_short : (text l : List ℕ) → length l < length text → false ≡ same_bytes (take (length text) l) text
-too_short text l h = sym (unequal_lengths (take (length text) l) text (λ q. omega (arith, ap length (take_all (length text) l (omega arith)))))
 
 -- a text of one byte
 alone : (b : Bool) → b ≡ b && true
 alone true = refl
 alone false = refl
 
-pub one_byte : (x : ℕ) (l : List ℕ) (i : ℕ) → i < length l → eqb (get_or l i 0) x ≡ same_bytes (take 1 (drop i l)) (x ∷ [])
-unfolding same_bytes
-one_byte x l i h = rw (drop-cons l i 0 h) (alone (eqb (get_or l i 0) x))
+-- a name of at most k bytes, filled to k of them
+filled_to : (k x : ℕ) (name : List ℕ) → length name ≤ k → take k (name ++ replicate k x) ≡ name ++ drop (length name) (replicate k x)
+filled_to k x name h =
+    let d : ℕ = k - length name in
+    let e : k ≡ length name + d = omega arith in
+    let less : d ≤ k = omega arith in
+    ap (λ (j : ℕ). take j (name ++ replicate k x)) e ∙ take-append-add name (replicate k x) d
+    ∙ ap (λ (l : List ℕ). name ++ l) (take-replicate d k x less ∙ sym (drop-replicate (length name) k x))
 
--- a text compared in two parts
-module _ (f g l : List ℕ) (k : ℕ) {a : Bool} (p : a ≡ same_bytes (take (length f) l) f) where
-  pub split_on : {b : Bool} → a ≡ true → b ≡ same_bytes (take k (drop (length f) l)) g → b ≡ same_bytes (take (length f + k) l) (f ++ g)
-  split_on h q = q ∙ rw (same_split f g l k, ← p, h)
-
-  pub split_out : a ≡ false → false ≡ same_bytes (take (length f + k) l) (f ++ g)
-  split_out h = rw (same_split f g l k, ← p, h)
-
-module _ (s name : List ℕ) {whole : List ℕ} {len : ℕ} {r : Bool} (w : whole ≡ filled name) (l : (len ≡ length name) × (len ≤ 8)) (e : r ≡ same_bytes s (take len whole)) where
-  -- a filled name begins with the bare one
-  bare : same_bytes s name ≡ r
-  bare =
-      let h : length name ≤ 8 = rw (← l.0) l.1 in
-      sym (e ∙ rw (w, l.0, take-take (length name) 8 _ h, take-append_seam))
-
-  pub name_bare : r ≡ true → true ≡ is_name s name
-  name_bare h = rw (bare ∙ h)
-
-  pub name_filled : {r' : Bool} → r ≡ false → r' ≡ same_bytes s whole → r' ≡ is_name s name
-  name_filled h e' = rw (bare ∙ h, ← w) e'
+-- the bare name with spaces behind it
+pub filled_is : {a b name : List ℕ} → a ≡ b → b ≡ name → length b ≤ 8 → a ++ drop (length b) (replicate 8 32) ≡ filled name
+filled_is p q h = rw (p, q) (sym (filled_to 8 32 _ (rw (← q) h)))
 
 -- bytes that compare as the same are the same
 same_is : (a b : List ℕ) → same_bytes a b ≡ true → a ≡ b

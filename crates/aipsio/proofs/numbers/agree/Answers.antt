@@ -7,5 +7,5 @@ use Rattle.aipsio.proofs.numbers.agree.Goals as goal
 pub returns : goal.returns
 unfolding agreed
 returns c =
-    via _ c.ranged-v.ensures (
+    via _ c.ranged.ensures (
     refl)

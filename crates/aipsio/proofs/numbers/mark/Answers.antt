@@ -7,5 +7,5 @@ use Rattle.aipsio.proofs.numbers.mark.Goals as goal
 pub returns : goal.returns
 unfolding mark_at
 returns c =
-    via _ c.ranged-v.ensures (
+    via _ c.ranged.ensures (
     refl)

@@ -1,12 +1,18 @@
--- `aipsio::numbers::ranged` meets its contract: its branches are the definition's cases.
-use Rattle.aipsio_rules.proofs.Ways.{ranged_kept, ranged_on, ranged_out}
+-- `aipsio::numbers::ranged` meets its contract: its calls compose as the definition says.
+use mathlib.Core.Path.{◌≡◌}
+use mathlib.Core.Bool.{◌&&◌}
+use lib.Dec.{leb}
+use borrow.Author.Rules.{rules}
+use Rattle.bytes_at.proofs.Stepped.{via}
+use Rattle.aipsio_rules.specs.Field.{ranged_at}
 use Rattle.aipsio.proofs.numbers.ranged.Goals as goal
-
-pub returns-then-refused-ne0 : goal.returns-then-refused-ne0
-returns-then-refused-ne0 c = ranged_kept _ _ _ _ _ _ c.sized-n.ensures c.if-refused-ne0.true
-
-pub returns-then-within : goal.returns-then-within
-returns-then-within c = ranged_on _ _ _ _ _ _ c.sized-n.ensures c.if-refused-ne0.false c.within.ensures c.if-within.true
+use Rattle.aipsio.proofs.numbers.ranged.Goals.{then-low-n, else-low-n}
 
 pub returns : goal.returns
-returns c = ranged_out _ _ _ _ _ _ c.sized-n.ensures c.if-refused-ne0.false c.within.ensures c.if-within.false c.refuse.ensures c.settle.ensures.value
+unfolding ranged_at
+returns c =
+    let ok : c.if-low-n.ok ≡ leb c.args.low c.sized-n.result.value && leb c.sized-n.result.value c.args.high =
+    elim c.if-low-n.branch [ then-low-n w ↦ search rules | else-low-n w ↦ search rules ] in
+    via _ c.sized-n.ensures (
+    via _ ok (
+    via _ c.judge-d.ensures c.settle.ensures.value))

@@ -7,6 +7,6 @@ pub returns : goal.returns
 unfolding opened
 returns c =
     via _ c.uint-len.ensures.value (
-    via _ c.text_name-d.ensures (
+    via _ c.name-d.ensures (
     via _ c.version-v.ensures (
     via _ c.enter-e.ensures c.settle.ensures.value)))

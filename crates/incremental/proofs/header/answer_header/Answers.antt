@@ -2,8 +2,8 @@
 use Rattle.incremental.proofs.header.HeaderLaws.{headed_on, headed_off}
 use Rattle.incremental.proofs.header.answer_header.Goals as goal
 
-pub returns-then-refused-ne0 : goal.returns-then-refused-ne0
-returns-then-refused-ne0 c = headed_off _ _ c.if-refused-ne0.true c.refusal.ensures
+pub returns-then-c-ne0 : goal.returns-then-c-ne0
+returns-then-c-ne0 c = headed_off _ _ c.if-c-ne0.true c.refusal.ensures
 
 pub returns : goal.returns
-returns c = headed_on _ _ c.if-refused-ne0.false
+returns c = headed_on _ _ c.if-c-ne0.false

@@ -2,8 +2,8 @@
 use Rattle.incremental.proofs.text.IndexLaws.{indexed_on, indexed_off}
 use Rattle.incremental.proofs.text.answer_index.Goals as goal
 
-pub returns-then-refused-ne0 : goal.returns-then-refused-ne0
-returns-then-refused-ne0 c = indexed_off _ _ _ _ _ c.if-refused-ne0.true c.refusal.ensures
+pub returns-then-c-ne0 : goal.returns-then-c-ne0
+returns-then-c-ne0 c = indexed_off _ _ _ _ _ c.if-c-ne0.true c.refusal.ensures
 
 pub returns : goal.returns
-returns c = indexed_on _ _ _ _ _ c.if-refused-ne0.false
+returns c = indexed_on _ _ _ _ _ c.if-c-ne0.false

@@ -5,10 +5,10 @@ use Rattle.bytes_at.proofs.Stepped.{via}
 use Rattle.keyword_rules.specs.TableRecord.{record_held_at, plain_held_at, held_at}
 use Rattle.keywords.proofs.walk.enter.Goals as goal
 
-pub returns-then-number-ne25 : goal.returns-then-number-ne25
+pub returns-then-number-ne-RECORD : goal.returns-then-number-ne-RECORD
 unfolding held_at plain_held_at
-returns-then-number-ne25 c =
-    rw (ne_eqb _ 25 c.if-number-ne25.true) (
+returns-then-number-ne-RECORD c =
+    rw (ne_eqb _ 25 c.if-number-ne-RECORD.true) (
     via _ c.skip_specific-past.ensures (
     via _ c.skip_plain-values.ensures (
     refl)))
@@ -16,7 +16,7 @@ returns-then-number-ne25 c =
 pub returns-then-n-eq0 : goal.returns-then-n-eq0
 unfolding held_at record_held_at
 returns-then-n-eq0 c =
-    rw (eq-eqb _ 25 c.if-number-ne25.false) (
+    rw (eq-eqb _ 25 c.if-number-ne-RECORD.false) (
     via _ c.open-o.ensures (
     via _ c.uint-n.ensures.value (
     via _ c.pass-past.ensures (
@@ -25,7 +25,7 @@ returns-then-n-eq0 c =
 pub returns : goal.returns
 unfolding held_at record_held_at
 returns c =
-    rw (eq-eqb _ 25 c.if-number-ne25.false) (
+    rw (eq-eqb _ 25 c.if-number-ne-RECORD.false) (
     via _ c.open-o.ensures (
     via _ c.uint-n.ensures.value (
     via _ c.pass-past.ensures (

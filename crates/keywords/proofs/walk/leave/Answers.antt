@@ -2,10 +2,10 @@
 use Rattle.keyword_rules.specs.TableRecord.{left_at}
 use Rattle.keywords.proofs.walk.leave.Goals as goal
 
-pub returns-then-whole : goal.returns-then-whole
+pub returns-in-Some : goal.returns-in-Some
 unfolding left_at
-returns-then-whole c = rw c.if-whole.true c.close.ensures
+returns-in-Some c = rw c.in-Some.is c.close.ensures
 
-pub returns : goal.returns
+pub returns-in-None : goal.returns-in-None
 unfolding left_at
-returns c = rw c.if-whole.false
+returns-in-None c = rw c.in-None.is

@@ -1,8 +1,7 @@
--- `lookup_question::tests::fresh` meets its contract, on either side of its test.
+-- `lookup_question::tests::fresh` meets its contract: `==` says what `same_plan` says.
+use mathlib.Core.Path.{◌∙◌}
+use Rattle.lookup_rules.proofs.Plans.{same_plan_is}
 use Rattle.lookup_question.proofs.tests.fresh.Goals as goal
 
-pub returns-then-r : goal.returns-then-r
-returns-then-r c = rw c.if-r.true c.same_plan.ensures
-
-pub returns : goal.returns
-returns c = rw c.if-r.false
+pub returns-else-not-r : goal.returns-else-not-r
+returns-else-not-r c = rw c.if-not-r.false (c.eq.ensures ∙ same_plan_is c.args.r.plan c.args.p)

@@ -1,22 +1,22 @@
--- `lookup_stages::planning::kind_with` meets its contract. The loop's invariant: no manager before i has the number.
-use mathlib.Core.Path.{refl}
-use native.Mathlib.Omega.{arith}
-use borrow.Author.Tests.{eq-eqb, ne_eqb}
-use Rattle.bytes_at.proofs.Searched.{searched_none, searched_on, searched_here, searched_out}
-use Rattle.table_rules.specs.ColumnSet.{no_manager}
-use Rattle.lookup_stages.proofs.planning.Found.{kind_is, kind_none}
+-- `lookup_stages::planning::kind_with` meets its contract: the closure is the test.
+use mathlib.Core.Path.{◌≡◌, ap, ◌∙◌}
+use lib.ListN.{take}
+use Rattle.std.proofs.Common.{rules}
+use Rattle.std.proofs.lemmas.Iterator.{YieldsList-from_slice}
+use Rattle.std.proofs.lemmas.Iterator.Search.{find_from_yields_List}
+use Rattle.std.specs.List.{find}
+use Rattle.std.specs.Option.{option_map}
+use Rattle.lookup_stages.proofs.planning.Found.{kind_of, has, found_kind}
 use Rattle.lookup_stages.proofs.planning.kind_with.Goals as goal
 
-pub loop-i-init : goal.loop-i-init
-loop-i-init c = searched_none _ _
+pub returns-in-Some : goal.returns-in-Some
+returns-in-Some c =
+    let r : option_map (λ x. x.now) c.find.result ≡ find (has c.args.managers.now c.args.sequence) (take c.args.count c.args.managers.now) =
+    find_from_yields_List (has c.args.managers.now c.args.sequence) _ _ c.find.result c.find.ensures.ran (YieldsList-from_slice (take c.args.count c.args.managers.now) cc) (λ y b q k. search rules) in
+    ap kind_of (rw c.in-Some.is at r) ∙ found_kind _ _ c.args.count (search rules)
 
-pub returns-then-m-sequence : goal.returns-then-m-sequence
-unfolding no_manager
-returns-then-m-sequence c = kind_is _ _ _ _ (searched_here c.loop-i.invariant (omega arith) (eq-eqb _ _ c.if-m-sequence.true)) (omega arith) refl
-
-pub loop-i-preserved : goal.loop-i-preserved
-unfolding no_manager
-loop-i-preserved c = searched_on c.loop-i.invariant (omega arith) (ne_eqb _ _ c.if-m-sequence.false)
-
-pub returns : goal.returns
-returns c = kind_none _ _ _ _ (searched_out c.loop-i.invariant (omega arith)) (omega (arith, c.loop-i.invariant.within))
+pub returns-in-None : goal.returns-in-None
+returns-in-None c =
+    let r : option_map (λ x. x.now) c.find.result ≡ find (has c.args.managers.now c.args.sequence) (take c.args.count c.args.managers.now) =
+    find_from_yields_List (has c.args.managers.now c.args.sequence) _ _ c.find.result c.find.ensures.ran (YieldsList-from_slice (take c.args.count c.args.managers.now) cc) (λ y b q k. search rules) in
+    ap kind_of (rw c.in-None.is at r) ∙ found_kind _ _ c.args.count (search rules)

@@ -1,12 +1,10 @@
 -- `standard::sets::mark_sets` meets its contract. The loop's invariant: the sets that are left decide.
-use Prim.Native.Nat.{◌+◌}
-use mathlib.Core.Path.{◌≡◌}
+use mathlib.Core.List.{map}
+use lib.ListN.{drop}
 use Rattle.buckets.proofs.marks.Marking.{Marking}
-use Rattle.standard.specs.Sets.{data_by}
+use Rattle.standard_rules.specs.Map.{map_set, data_of}
 use Rattle.standard.proofs.sets.mark_sets.Given as goal
 
-abbrev pub invariant-loop-left : goal.invariant-loop-left
-invariant-loop-left l = (Marking l.nb l.initial.seen (data_by l.big l.text l.entries l.buckets l.m 0) l.seen (data_by l.big l.text l.entries l.buckets l.left l.k)) × (l.k + l.left ≡ l.m)
-
-abbrev pub decreases-loop-left : goal.decreases-loop-left
-decreases-loop-left l = l.left
+abbrev pub invariant-loop-s : goal.invariant-loop-s
+invariant-loop-s l =
+    Marking l.buckets.count l.initial.seen.seen (data_of (map (map_set l.big l.text) l.sets)) l.seen.seen (data_of (map (map_set l.big l.text) (drop l.s-index l.sets)))

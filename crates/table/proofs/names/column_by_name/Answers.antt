@@ -1,31 +1,23 @@
--- `table::names::column_by_name` meets its contract. The loop's invariant: no column before i has the name.
-use mathlib.Core.Path.{sym, ◌∙◌}
+-- `table::names::column_by_name` meets its contract: what `position` finds is the first column with the name.
+use mathlib.Core.Path.{◌≡◌, ◌∙◌}
+use mathlib.Core.Bool.{Bool}
 use native.Mathlib.Omega.{arith}
-use Rattle.bytes_at.proofs.Searched.{searched_none, searched_on, searched_here, searched_out}
-use Rattle.table_rules.specs.ColumnDesc.{is_named, no_column, first_named}
-use Rattle.table.proofs.names.Named.{not_described, found_at, not_found}
+use borrow.Author.Rules.{rules}
+use borrow.Author.Tests.{tests}
+use lib.ListN.{take}
+use Rattle.std.specs.List.{position}
+use Rattle.table_rules.specs.declared.Column.{Column}
+use Rattle.std.proofs.lemmas.Iterator.{YieldsList-from_slice}
+use Rattle.std.proofs.lemmas.Iterator.Search.{position_from_yields_List}
+use Rattle.table.proofs.names.Named.{has_name, not_described, sought}
 use Rattle.table.proofs.names.column_by_name.Goals as goal
 
-pub returns-then-refused-ne0 : goal.returns-then-refused-ne0
-returns-then-refused-ne0 c = not_described _ _ _ c.describe-d.ensures.value c.if-refused-ne0.true
-
-pub loop-i-init : goal.loop-i-init
-loop-i-init c = searched_none _ _
-
-pub returns-then-is_at : goal.returns-then-is_at
-unfolding first_named is_named no_column
-returns-then-is_at c =
-    found_at _ _ _ c.describe-d.ensures.value c.if-refused-ne0.false _
-    (searched_here c.loop-i.invariant (omega arith) (sym c.is_at.ensures ∙ c.if-is_at.true))
-    (omega arith)
-
-pub loop-i-preserved : goal.loop-i-preserved
-unfolding is_named no_column
-loop-i-preserved c = searched_on c.loop-i.invariant (omega arith) (sym c.is_at.ensures ∙ c.if-is_at.false)
+pub returns-then-d-ne0 : goal.returns-then-d-ne0
+returns-then-d-ne0 c = not_described _ _ _ c.describe-d.ensures.value c.if-d-ne0.true
 
 pub returns : goal.returns
-unfolding first_named
 returns c =
-    not_found _ _ _ c.describe-d.ensures.value c.if-refused-ne0.false _
-    (searched_out c.loop-i.invariant (omega arith))
-    (omega arith)
+    let test : Column → Bool = has_name c.args.s.now c.args.name.now in
+    let found : c.position.result ≡ position test (take c.describe-d.result.column_count c.describe-d.result.columns) =
+    position_from_yields_List test _ _ _ c.position.ensures.ran (YieldsList-from_slice _ cc) (λ x b q k. search (rules, tests)) in
+    c.ok_or.ensures.value ∙ sought _ _ _ c.describe-d.ensures.value c.if-d-ne0.false (omega (arith, c.describe-d.ensures.bounded)) found

@@ -1,5 +1,4 @@
 -- `table_column_desc::columns::read_type` meets its contract: its calls compose as the definition says.
-use mathlib.Core.Path.{refl}
 use Rattle.bytes_at.proofs.Stepped.{via}
 use Rattle.table_rules.specs.ColumnDesc.{column_type_at}
 use Rattle.table_column_desc.proofs.columns.read_type.Goals as goal
@@ -8,7 +7,7 @@ pub returns : goal.returns
 unfolding column_type_at
 returns c =
     via _ c.string-t.ensures.value (
-    via _ c.part.ensures (
+    via _ c.part.ensures.value (
     via _ c.column_type-k.ensures (
-    via _ c.judge-d.ensures (
-    refl))))
+    via _ (rw c.is_some.ensures at c.judge-d.ensures) (
+    rw c.unwrap_or.ensures))))

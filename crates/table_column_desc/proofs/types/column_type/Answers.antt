@@ -1,12 +1,30 @@
--- `table_column_desc::types::column_type` meets its contract: the two beginnings are tested, and the name is what follows.
-use Rattle.table_column_desc.proofs.types.Ways.{scalar_on, array_on, neither}
+-- `table_column_desc::types::column_type` meets its contract: a prefix is stripped where the bytes begin with it.
+use mathlib.Core.Path.{◌≡◌, sym, refl, ◌∙◌}
+use mathlib.Core.Bool.{true, false}
+use lib.ListN.{take, drop}
+use Rattle.bytes_at.specs.Bytes.{bytes, same_bytes}
+use Rattle.bytes_at.proofs.Comparing.{same_pointwise}
+use Rattle.table_rules.specs.ColumnDesc.{column_type_of}
 use Rattle.table_column_desc.proofs.types.column_type.Goals as goal
 
-pub returns-then-is_scalar : goal.returns-then-is_scalar
-returns-then-is_scalar c = scalar_on _ c.is_scalar.ensures c.if-is_scalar.true c.rest.ensures c.from_name.ensures c.column_type_of.ensures
+pub returns-in-Some : goal.returns-in-Some
+unfolding column_type_of
+returns-in-Some c =
+    let same : same_bytes (take 17 c.args.s.now) (bytes "ScalarColumnDesc<") ≡ true = sym (same_pointwise _ _) ∙ c.in-Some.ensures.cases.0 in
+    let name : c.in-Some.name.now ≡ drop 17 c.args.s.now = c.in-Some.ensures.cases.1 in
+    rw (same, ← name, ← c.from_name.ensures) refl
 
-pub returns-then-is_array : goal.returns-then-is_array
-returns-then-is_array c = array_on _ c.is_scalar.ensures c.if-is_scalar.false c.is_array.ensures c.if-is_array.true c.rest-then-is_array.ensures c.from_name-then-is_array.ensures c.column_type_of-then-is_array.ensures
+pub returns-in-Some-strip_prefix : goal.returns-in-Some-strip_prefix
+unfolding column_type_of
+returns-in-Some-strip_prefix c =
+    let other : same_bytes (take 17 c.args.s.now) (bytes "ScalarColumnDesc<") ≡ false = sym (same_pointwise _ _) ∙ c.in_default.ensures.cases in
+    let same : same_bytes (take 16 c.args.s.now) (bytes "ArrayColumnDesc<") ≡ true = sym (same_pointwise _ _) ∙ c.in-Some-strip_prefix.ensures.cases.0 in
+    let name : c.in-Some-strip_prefix.name.now ≡ drop 16 c.args.s.now = c.in-Some-strip_prefix.ensures.cases.1 in
+    rw (other, same, ← name, ← c.from_name-in-Some-strip_prefix.ensures) refl
 
-pub returns : goal.returns
-returns c = neither _ c.is_scalar.ensures c.if-is_scalar.false c.is_array.ensures c.if-is_array.false c.column_type_of-2.ensures
+pub returns-in_default-strip_prefix : goal.returns-in_default-strip_prefix
+unfolding column_type_of
+returns-in_default-strip_prefix c =
+    let other : same_bytes (take 17 c.args.s.now) (bytes "ScalarColumnDesc<") ≡ false = sym (same_pointwise _ _) ∙ c.in_default.ensures.cases in
+    let third : same_bytes (take 16 c.args.s.now) (bytes "ArrayColumnDesc<") ≡ false = sym (same_pointwise _ _) ∙ c.in_default-strip_prefix.ensures.cases in
+    rw (other, third) refl

@@ -6,4 +6,4 @@ use Rattle.table_column_set.proofs.bindings.after_object.Goals as goal
 
 pub returns : goal.returns
 unfolding after_object
-returns c = via _ c.close-d.ensures refl
+returns c = via _ c.close.ensures refl

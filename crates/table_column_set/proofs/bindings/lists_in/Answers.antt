@@ -12,4 +12,4 @@ overflow_mul-n-2 c = omega arith
 
 pub returns : goal.returns
 unfolding lists_in
-returns c = via _ c.judge-d.ensures (rw c.minus-offsets.ensures)
+returns c = via _ c.judge-d.ensures (rw c.saturating_sub.ensures)

@@ -8,7 +8,7 @@ pub returns : goal.returns
 unfolding ssm_at
 returns c =
     via _ c.mark-m.ensures (
-    via _ c.open_named-o.ensures (
+    via _ c.open-o.ensures (
     via _ c.string-name.ensures.value (
     via _ c.block-offsets.ensures (
     via _ c.block-sets.ensures (

@@ -1,20 +1,21 @@
--- `table_column_set::data_managers::first_number` meets its contract. The loop's invariant: none of the first i numbers is the number given.
-use native.Mathlib.Omega.{arith}
-use borrow.Author.Tests.{eq-eqb, ne_eqb}
-use Rattle.bytes_at.proofs.Searched.{searched_none, searched_on, searched_here, searched_out}
-use Rattle.table_rules.specs.ColumnSet.{first_number}
+-- `table_column_set::data_managers::first_number` meets its contract: what `position` finds is the first whose test passes.
+use mathlib.Core.Path.{◌≡◌, ◌∙◌}
+use mathlib.Core.Bool.{Bool}
+use borrow.Author.Rules.{rules}
+use borrow.Author.Tests.{tests}
+use lib.Dec.{eqb}
+use Rattle.std.specs.List.{position}
+use Rattle.std.proofs.lemmas.Iterator.{YieldsList-from_slice}
+use Rattle.std.proofs.lemmas.Iterator.Search.{position_from_yields_List}
+use Rattle.table_rules.specs.declared.Manager.{Manager}
+use Rattle.table_rules.specs.ColumnSet.{no_manager, first_number}
+use Rattle.table_rules.proofs.Searches.{position_first}
 use Rattle.table_column_set.proofs.data_managers.first_number.Goals as goal
 
-pub loop-i-init : goal.loop-i-init
-loop-i-init c = searched_none _ _
-
-pub returns-then-numbers-i : goal.returns-then-numbers-i
+pub returns-clause-value : goal.returns-clause-value
 unfolding first_number
-returns-then-numbers-i c = record { value = searched_here c.loop-i.invariant (omega arith) (eq-eqb _ _ c.if-numbers-i.true); bounded = omega arith }
-
-pub loop-i-preserved : goal.loop-i-preserved
-loop-i-preserved c = searched_on c.loop-i.invariant (omega arith) (ne_eqb _ _ c.if-numbers-i.false)
-
-pub returns : goal.returns
-unfolding first_number
-returns c = record { value = searched_out c.loop-i.invariant (omega arith); bounded = omega arith }
+returns-clause-value c =
+    let test : Manager → Bool = λ m. eqb m.number c.args.number in
+    let found : c.position.result ≡ position test c.args.managers.now =
+    position_from_yields_List test _ _ _ c.position.ensures.ran (YieldsList-from_slice c.args.managers.now cc) (λ x b q k. search (rules, tests)) in
+    c.unwrap_or.ensures ∙ rw found (position_first test no_manager _)

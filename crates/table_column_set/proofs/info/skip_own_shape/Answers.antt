@@ -6,14 +6,8 @@ use Rattle.table_column_set.proofs.info.skip_own_shape.Goals as goal
 
 pub returns-then-own-eq0 : goal.returns-then-own-eq0
 unfolding own_shape_at
-returns-then-own-eq0 c = rw c.if-array.true (via _ c.flag-own.ensures.value (rw (eq-eqb _ 0 c.if-own-eq0.true)))
+returns-then-own-eq0 c = rw c.if-not-array.false (via _ c.flag-own.ensures.value (rw (eq-eqb _ 0 c.if-own-eq0.true)))
 
-pub returns-then-array : goal.returns-then-array
+pub returns-else-own-eq0 : goal.returns-else-own-eq0
 unfolding own_shape_at
-returns-then-array c =
-    rw c.if-array.true
-    (via _ c.flag-own.ensures.value (rw (ne_eqb _ 0 c.if-own-eq0.false) c.iposition.ensures))
-
-pub returns : goal.returns
-unfolding own_shape_at
-returns c = rw c.if-array.false
+returns-else-own-eq0 c = rw c.if-not-array.false (via _ c.flag-own.ensures.value (rw (ne_eqb _ 0 c.if-own-eq0.false) c.iposition.ensures))

@@ -8,17 +8,17 @@ pub returns-then-s-lt4 : goal.returns-then-s-lt4
 unfolding first_from
 returns-then-s-lt4 c = no_fourth _ c.if-s-lt4.true
 
-pub returns-then-s-eq117 : goal.returns-then-s-eq117
+pub returns-in-97 : goal.returns-in-97
 unfolding first_from
-returns-then-s-eq117 c = candidate _ (rw (c.in-97.is, c.if-s-eq117.true))
+returns-in-97 c = candidate _ (rw (c.in-97.is, c.if-s-eq117.true))
 
 pub returns-in-108 : goal.returns-in-108
 unfolding first_from
 returns-in-108 c = candidate _ (rw c.in-108.is)
 
-pub returns-else-s-eq117 : goal.returns-else-s-eq117
+pub returns-in-97-2 : goal.returns-in-97-2
 unfolding first_from
-returns-else-s-eq117 c = candidate _ (rw (c.in-97.is, ne_eqb _ _ c.if-s-eq117.false))
+returns-in-97-2 c = candidate _ (rw (c.in-97.is, ne_eqb _ _ c.if-s-eq117.false))
 
 pub returns-in-114 : goal.returns-in-114
 unfolding first_from

@@ -1,0 +1,8 @@
+-- `lookup::place_asked` meets its contract.
+use Rattle.lookup_rules.proofs.Said.{says_of}
+use Rattle.lookup.proofs.place_asked.Goals as goal
+
+pub returns-clause-says : goal.returns-clause-says
+returns-clause-says c =
+    let says = says_of _ _ _ _ c.ask-a.ensures.0 in
+    rw (c.placed.ensures, ← c.ask-a.ensures.0) (says.placed, says.bits, says.looks)

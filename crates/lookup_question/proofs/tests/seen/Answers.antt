@@ -1,8 +1,0 @@
--- `lookup_question::tests::seen` meets its contract, on either side of its test.
-use Rattle.lookup_question.proofs.tests.seen.Goals as goal
-
-pub returns-then-r : goal.returns-then-r
-returns-then-r c = rw c.if-r.true c.either.ensures
-
-pub returns : goal.returns
-returns c = rw c.if-r.false

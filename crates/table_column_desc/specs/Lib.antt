@@ -1,2 +1,0 @@
--- Definitions that only serve the code of this crate.
-pub mod Parts
