@@ -37,7 +37,7 @@ module _ (big : Bool) (text : List ℕ) where
   counts_are l k [] = refl
   counts_are l k (s ∷ sets) = rw (counts_are l (suc k) sets)
 
-extents_same : (per per' : ℕ → ℕ) → ((k : ℕ) → per k ≡ per' k) → (l : List MapColumn) → map (extent_by per) l ≡ map (extent_by per') l
+pub extents_same : (per per' : ℕ → ℕ) → ((k : ℕ) → per k ≡ per' k) → (l : List MapColumn) → map (extent_by per) l ≡ map (extent_by per') l
 extents_same per per' h [] = refl
 extents_same per per' h (c ∷ l) = rw (extents_same per per' h l, h c.set)
 

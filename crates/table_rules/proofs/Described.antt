@@ -40,6 +40,8 @@ bindings_long s owners infos (suc n) = length-set (bindings_at s owners infos n)
 pub record Described (d : Description) : Type 0 where
   pub rows_most : d.rows ≤ most_rows
   pub columns_most : d.column_count ≤ 64
+  pub columns_places : length d.columns ≡ 64
+  pub bindings_places : length d.bindings ≡ 64
   pub columns_whole : (i : ℕ) → Whole (get_or d.columns i no_column)
   -- a byte other than 0 stands beside a refusal of 1 to 7 only
   pub others : OthersCarry0 d.refused
@@ -61,6 +63,8 @@ unfolding refused_table
 refused why h = record {
   rows_most = zero-le;
   columns_most = zero-le;
+  columns_places = length-replicate 64 no_column;
+  bindings_places = length-replicate 64 no_binding;
   columns_whole = no_columns_whole;
   others = h;
 }
@@ -79,6 +83,8 @@ described t =
     (record {
       rows_most = rw e (head_most t end head.rows);
       columns_most = rw k (count_most t o.next);
+      columns_places = rw x (columns_long t n.next n.count);
+      bindings_places = rw y (bindings_long t os.owners is.infos n.count);
       columns_whole = rw x (columns_whole t n.next n.count);
       others = others_none;
     })

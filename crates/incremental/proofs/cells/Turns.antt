@@ -76,7 +76,7 @@ module _ (big : Bool) (f : List ℕ) (size : ℕ) (x : Index) (cells : Cells) (r
       (eb : b ≡ bucket_number big f x i) (ef : first ≡ first_row big f x i) (ep : past ≡ first_row big f x (i + 1))
       (ea : at ≡ bucket_start size b) (er : rows ≡ past - first) (el : local ≡ row - first)
       (eo : one ≡ bucket_at f at size big rows local cells.column cells.bytes cells.count) where
-    bucket_on : {start offset : ℕ} → one.next.refused ≡ 0 → start ≡ cond (leb first row) at found.start → offset ≡ cond (leb first row) one.value found.offset
+    pub bucket_on : {start offset : ℕ} → one.next.refused ≡ 0 → start ≡ cond (leb first row) at found.start → offset ≡ cond (leb first row) one.value found.offset
         → found_at start offset ≡ step found i
     unfolding bucket_into
     bucket_on z p q =

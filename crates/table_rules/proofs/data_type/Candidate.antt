@@ -81,7 +81,7 @@ module _ (s : List ℕ) {n : ℕ} {k : Option DataType} (p : Candidate s n) (e :
       rw (← f)
 
   -- the number is no type's
-  name_none : k ≡ None → k ≡ with_name s
+  pub name_none : k ≡ None → k ≡ with_name s
   name_none q = q ∙ nowhere (λ i h m. omega (arith, number_none n (sym q ∙ e), only i h m))
 
   module _ {t : DataType} (q : k ≡ Some t) {r : Bool} (a : r ≡ is_name s (type_name t)) where
@@ -92,7 +92,7 @@ module _ (s : List ℕ) {n : ℕ} {k : Option DataType} (p : Candidate s n) (e :
     compared : test (type_place n) ≡ r
     compared = sym (rw (of.1, name_of (type_place n) of.0) at a)
 
-    name_found : r ≡ true → Some t ≡ with_name s
+    pub name_found : r ≡ true → Some t ≡ with_name s
     unfolding with_number with_name
     name_found h =
         let b : type_place n < 12 = of.0 in
@@ -100,7 +100,7 @@ module _ (s : List ℕ) {n : ℕ} {k : Option DataType} (p : Candidate s n) (e :
         let f : type_place n ≡ first_below test 12 = searched_here before b (compared ∙ h) in
         sym q ∙ e ∙ rw f
 
-    name_unknown : r ≡ false → None ≡ with_name s
+    pub name_unknown : r ≡ false → None ≡ with_name s
     name_unknown h = nowhere (λ i l m. false≢true (sym (compared ∙ h) ∙ rw (only i l m) m))
 
 -- the type of the number, if the bytes are its name, as `filter` gives it
