@@ -7,12 +7,27 @@ use aipsio_rules::{Cursor, Value};
 use bytes_at::Width;
 
 // A number of as many bytes as the width says.
+// A refused cursor leaves early, here and in what follows: a value chosen at the end of each field makes the next one wait for it.
+#[inline(always)]
 pub fn sized(s: &[u8], c: Cursor, width: Width) -> Value
     ensures { result ≡ sized_at s.now c (bytes_of width) }
 {
-    let v = bytes_at::number(s, c.at, c.big, width);
-    let d = crate::skip(c, width.bytes());
-    crate::settle(v, d)
+    if c.refused != 0 {
+        return Value { value: 0, next: c };
+    }
+    let size = width.bytes();
+    if crate::left(c) < size {
+        let d = crate::refuse(c, c.at, 1);
+        return Value { value: 0, next: d };
+    }
+    Value {
+        value: bytes_at::number(s, c.at, c.big, width),
+        next: Cursor {
+            at: c.at + size,
+            refused: 0,
+            ..c
+        },
+    }
 }
 
 // A uInt, or an Int as the uInt of the same bytes.
@@ -28,8 +43,14 @@ pub fn ranged(s: &[u8], c: Cursor, width: Width, low: usize, high: usize, refusa
     ensures { result ≡ ranged_at s.now c (bytes_of width) low high refusal }
 {
     let n = sized(s, c, width);
+    if n.next.refused != 0 {
+        return n;
+    }
     let ok = low <= n.value && n.value <= high;
-    let d = crate::judge(n.next, c.at, ok, refusal);
+    if ok {
+        return n;
+    }
+    let d = crate::refuse(n.next, c.at, refusal);
     crate::settle(n.value, d)
 }
 

@@ -71,6 +71,12 @@ pub record ReadsText (c : Cursor) (t : Text) : Type 0 where
 pub refused_reads : {c : Cursor} {r : Value} → Reads c r → Refused c → r ≡ record { value = 0; next = c }
 refused_reads {c} {r} k h = rw (← (k.keeps.stays h), ← (k.none (refused_after k.keeps h)))
 
+text_of : {t : Text} {a b : ℕ} {c : Cursor} → t.start ≡ a → t.len ≡ b → t.next ≡ c → t ≡ record { start = a; len = b; next = c }
+text_of p q r = rw (← p, ← q, ← r)
+
+pub refused_text : {c : Cursor} {t : Text} → ReadsText c t → Refused c → t ≡ record { start = 0; len = 0; next = c }
+refused_text k h = let z = k.none (refused_after k.keeps h) in text_of z.0 z.1 (k.keeps.stays h)
+
 pub latched_keeps : (c d : Cursor) → Keeps c (latched c d)
 latched_keeps c d = record { stays = λ h. rw (ne_eqb c.refused 0 h) }
 

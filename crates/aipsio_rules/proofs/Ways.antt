@@ -10,14 +10,16 @@ use mathlib.Core.Bool.{Bool, true, false, cond, ◌&&◌}
 use Prim.Native.Nat.{ℕ, suc, ◌+◌, ◌-◌, ◌≤◌, ◌<◌}
 use native.Mathlib.Decide.{ℕ_discrete}
 use native.Mathlib.Omega.{arith}
+use lib.ListN.{take, drop}
 use lib.Dec.{leb, eqb}
 use Rattle.bytes_at.specs.Number.{uint_of}
+use Rattle.bytes_at.specs.Bytes.{same_bytes}
 use Rattle.bytes_at.specs.Steps.{◌>>=◌}
 use Rattle.bytes_at.proofs.Stepped.{via}
 use Rattle.aipsio_rules.specs.declared.Cursor.{Cursor}
 use Rattle.aipsio_rules.specs.declared.Value.{Value}
 use Rattle.aipsio_rules.specs.declared.Text.{Text}
-use Rattle.aipsio_rules.specs.Field.{refused_at, moved_to, left_in, judged, settled, sized_at, ranged_at, text_before, text_at, string_at}
+use Rattle.aipsio_rules.specs.Field.{refused_at, moved_to, left_in, judged, settled, sized_at, ranged_at, text_before, text_at, string_at, name_at}
 use Rattle.aipsio_rules.proofs.Kept.{Clean, Refused, judged_keeps, settled_none, text_none}
 use Rattle.aipsio_rules.proofs.Sides.{skip_on, skip_refused, judge_on, judge_refused, settle_on, text_on}
 
@@ -80,6 +82,13 @@ module _ (s : List ℕ) (c : Cursor) where
 
   -- a String
   module _ (h : Clean c) {room n : ℕ} (e : room ≡ left_in c) (q : n ≡ uint_of c.big 4 s c.at) where
+    pub any_string_short : {d : Cursor} → room < 4 + n → d ≡ refused_at c c.at 1 → record { start = 0; len = 0; next = d } ≡ text_at s c
+    unfolding text_at
+    any_string_short {d} l p =
+        via _ q (
+        via _ (p ∙ skip_refused c h e (4 + n) l) (
+        sym (text_none d n (given_refused 0 p refl))))
+
     pub any_string_on : 4 + n ≤ room → record { start = c.at + 4; len = n; next = moved_to c (c.at + (4 + n)) } ≡ text_at s c
     unfolding text_at
     any_string_on l =
@@ -99,6 +108,32 @@ module _ (s : List ℕ) (c : Cursor) where
       unfolding string_at
       string_same t p = via _ q (via _ t (via _ p text_again))
 
+      pub string_kept : Refused r.next → r ≡ string_at s c low high
+      string_kept h = string_same refl (sym ((judged_keeps r.next c.at _ 4).stays h))
+
       module _ (h : Clean r.next) {ok : Bool} (t : ok ≡ leb low r.len && leb r.len high) where
         pub string_on : ok ≡ true → r ≡ string_at s c low high
         string_on e = string_same t (judge_on r.next h c.at ok 4 e)
+
+        pub string_out : {d : Cursor} → ok ≡ false → d ≡ refused_at r.next c.at 4 → record { start = 0; len = 0; next = d } ≡ string_at s c low high
+        unfolding string_at
+        string_out {d} e p =
+            via _ q (
+            via _ t (
+            via _ (p ∙ judge_refused r.next h c.at ok 4 e) (
+            sym (text_none d r.len (given_refused 3 p refl)))))
+
+    -- a name, of which r was read
+    module _ (expected : List ℕ) where
+      pub name_kept : Refused r.next → r.next ≡ name_at s c expected
+      unfolding name_at
+      name_kept h = via _ q (via _ refl (via _ refl (sym ((judged_keeps r.next c.at _ 2).stays h))))
+
+      module _ (h : Clean r.next) {ok : Bool} (t : ok ≡ same_bytes (take r.len (drop r.start s)) expected) where
+        pub name_on : ok ≡ true → r.next ≡ name_at s c expected
+        unfolding name_at
+        name_on e = via _ q (via _ refl (via _ t (judge_on r.next h c.at ok 2 e)))
+
+        pub name_out : {d : Cursor} → ok ≡ false → d ≡ refused_at r.next c.at 2 → d ≡ name_at s c expected
+        unfolding name_at
+        name_out e p = via _ q (via _ refl (via _ t (p ∙ judge_refused r.next h c.at ok 2 e)))

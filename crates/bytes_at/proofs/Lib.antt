@@ -1,5 +1,7 @@
 -- Laws that proofs of this crate and of those above it cite.
 pub mod Comparing
+pub mod Copied
+pub mod Eights
 pub mod Parts
 pub mod Numbers
 pub mod Loops

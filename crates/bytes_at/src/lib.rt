@@ -2,6 +2,7 @@
 #![tactic(auto)]
 
 ghost use Rattle.std.specs.Prelude.{◌≡◌, ◌≤◌, ◌<◌, ◌+◌, ◌^◌, length, take, drop};
+ghost use Rattle.std.proofs.Math.Seq.{paste};
 ghost use Rattle.bytes_at.specs.Number.{bytes_of, int_width, uint_of};
 ghost use Rattle.bytes_at.specs.Stages.{blaming};
 ghost use Rattle.bytes_at.specs.Bytes.{first_zero, before_zero, same_bytes};
@@ -129,6 +130,17 @@ pub fn rest(s: &[u8], start: usize) -> &[u8]
     &s[start.min(s.len())..]
 }
 
+// Copies n bytes of src from `from` into dst at `at`.
+// By index, and no `copy_from_slice`: that takes `memmove` from whoever links the archive for C, and this takes no new name.
+pub fn copy(src: &[u8], from: usize, n: usize, dst: &mut [u8], at: usize)
+    requires { (from + n ≤ length src.now) × (at + n ≤ length dst.old) }
+    ensures { dst.new ≡ paste dst.old at (drop from src.now) n }
+{
+    for k in 0..n {
+        dst[at + k] = src[from + k];
+    }
+}
+
 // How many bytes stand before the first zero byte.
 pub fn first_zero(s: &[u8]) -> usize
     ensures { (result ≡ first_zero s.now) × (result ≤ length s.now) }
@@ -143,16 +155,42 @@ pub fn before_zero(s: &[u8]) -> &[u8]
     &s[..first_zero(s)]
 }
 
-// Whether the len bytes from start, or as many of them as there are, are the bytes given.
-pub fn is_at(s: &[u8], start: usize, len: usize, expected: &[u8]) -> bool
-    ensures { result ≡ same_bytes (take len (drop start s.now)) expected.now }
+// Whether two slices of one length hold the same bytes, N of them at a time. The last N may overlap those before them.
+#[inline(always)]
+fn same_by<const N: usize>(a: &[u8], b: &[u8]) -> bool
+    requires size { (1 ≤ N) × (N ≤ 8) }
+    requires long { (N ≤ length a.now) × (length a.now ≡ length b.now) }
+    ensures { result ≡ same_bytes a.now b.now }
 {
-    part(s, start, len) == expected
+    let last = a.len() - N;
+    for k in 0..last.div_ceil(N) {
+        if uint_there::<N>(a, k * N, true) != uint_there::<N>(b, k * N, true) {
+            return false;
+        }
+    }
+    uint_there::<N>(a, last, true) == uint_there::<N>(b, last, true)
 }
 
-// Whether two slices hold the same bytes: `==`, in the definitions' word.
+// Whether two slices hold the same bytes: `==`, in the definitions' word. A table with 64 columns has 2,000 pairs of names compared, most of which
+// differ in their length or early on: so this is put in place, and compares numbers, where `==` of slices calls a function that looks at 32 bytes one by one.
+#[inline(always)]
 pub fn same(a: &[u8], b: &[u8]) -> bool
     ensures { result ≡ same_bytes a.now b.now }
 {
-    a == b
+    if a.len() != b.len() {
+        return false;
+    }
+    match a.len() {
+        0..=3 => a == b,
+        4..=7 => same_by::<4>(a, b),
+        _ => same_by::<8>(a, b),
+    }
+}
+
+// Whether the len bytes from start, or as many of them as there are, are the bytes given.
+#[inline(always)]
+pub fn is_at(s: &[u8], start: usize, len: usize, expected: &[u8]) -> bool
+    ensures { result ≡ same_bytes (take len (drop start s.now)) expected.now }
+{
+    same(part(s, start, len), expected)
 }

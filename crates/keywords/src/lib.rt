@@ -3,7 +3,8 @@
 
 pub mod walk;
 
-ghost use Rattle.std.specs.Prelude.{◌≡◌, ◌+◌};
+ghost use Rattle.std.specs.Prelude.{◌≡◌, ◌+◌, List, ℕ, IfOk, IfErr};
+ghost use Rattle.keyword_rules.specs.declared.Sought.{Sought};
 ghost use Rattle.keyword_rules.specs.Keywords.{between, table_keywords, column_keywords, walked_at, search_at, keyword_search, keyword_of, keyword_part, part_start, field_of, SearchSays, KeywordThere, FieldThere};
 
 use aipsio_rules::Cursor;
@@ -74,22 +75,31 @@ fn search_set(s: &[u8], path: &[u8], sought: Sought, start: usize) -> Result<Fie
     })
 }
 
-// What the path leads to in the keyword set of the table or of a column: the table's refusals, 8, then the set's.
-pub fn search(s: &[u8], scope: Scope, path: &[u8], sought: Sought) -> Result<Field, Refusal>
-    ensures value { result ≡ keyword_search s.now scope path.now sought }
-    ensures says { SearchSays s.now scope result }
+// Where the keyword set of the table or of a column begins: the table's refusals, then 8.
+// Not put in place: the description would stay on the stack while the set is walked.
+#[inline(never)]
+fn set_start(s: &[u8], scope: Scope) -> Result<usize, Refusal>
+    ensures there { IfOk result (λ start. (path : List ℕ) → (sought : Sought) → search_at s.now path sought start ≡ keyword_search s.now scope path sought) }
+    ensures refused { IfErr result (λ why. (path : List ℕ) → (sought : Sought) → Err why ≡ keyword_search s.now scope path sought) }
 {
     let d = table::describe(s);
     if d.refused.number != 0 {
         return Err(d.refused);
     }
     match scope {
-        Scope::Table => search_set(s, path, sought, table_keywords(s)),
-        Scope::Column(k) if k < d.column_count => {
-            search_set(s, path, sought, column_keywords(s, d.columns[k]))
-        }
+        Scope::Table => Ok(table_keywords(s)),
+        Scope::Column(k) if k < d.column_count => Ok(column_keywords(s, d.columns[k])),
         Scope::Column(_) => Err(Refusal { number: 8, byte: 0 }),
     }
+}
+
+// What the path leads to in the keyword set of the table or of a column: the table's refusals, 8, then the set's.
+pub fn search(s: &[u8], scope: Scope, path: &[u8], sought: Sought) -> Result<Field, Refusal>
+    ensures value { result ≡ keyword_search s.now scope path.now sought }
+    ensures says { SearchSays s.now scope result }
+{
+    let start = set_start(s, scope)?;
+    search_set(s, path, sought, start)
 }
 
 // Keyword: the type number and the place of the value that a path of AipsIO Strings names.

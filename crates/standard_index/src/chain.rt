@@ -27,7 +27,7 @@ fn gather_chain(buckets: Buckets, count: usize, first: usize, text: &mut [u8]) -
             return false;
         }
         let n = (text.len() - at).min(buckets.size - 8);
-        text[at..at + n].copy_from_slice(&buckets.file[p + 8..p + 8 + n]);
+        bytes_at::copy(buckets.file, p + 8, n, text, at);
         at += n;
         b = next;
     }
@@ -53,7 +53,7 @@ fn gather_bucket(
         return false;
     }
     let p = buckets.start_of(first) + offset;
-    text.copy_from_slice(&buckets.file[p..p + n]);
+    bytes_at::copy(buckets.file, p, n, text, 0);
     true
 }
 

@@ -25,6 +25,7 @@ pub fn read_head(s: &[u8], c: Cursor) -> TableHead
 }
 
 // The first fields of TableDesc: name, version and comment, three Strings as a column's notes are.
+#[inline(always)]
 #[tactic(auto, unfolding(table_rules::specs::Table::table_notes_at, table_rules::specs::ColumnDesc::notes_at))]
 pub fn skip_notes(s: &[u8], c: Cursor) -> Cursor
     ensures { result ≡ table_notes_at s.now c }
@@ -65,6 +66,9 @@ fn refuse(why: Refusal) -> Description
 }
 
 // What the bytes of table.dat describe.
+// What reads its lists (`read_columns`, `read_managers`, `read_owners`, `read_infos`, `bind`) is not put in place here: the lists would lie on
+// this function's stack twice and more, and be copied as often.
+#[inline(never)]
 pub fn describe(s: &[u8]) -> Description
     ensures value { result ≡ described_as s.now }
     ensures bounded { (result.column_count ≤ 64) × (result.manager_count ≤ 16) }

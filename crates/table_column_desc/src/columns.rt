@@ -91,6 +91,7 @@ fn is_taken(s: &[u8], columns: &[Column], name: &[u8]) -> bool
 
 // n columns from the cursor. A name that an earlier column has: 6.
 // `n ≤ 64` is the bound of a count alone: a type for it would say no more than the clause.
+#[inline(never)] // as `table::describe` says
 pub fn read_columns(s: &[u8], c: Cursor, n: usize) -> Columns
     requires { n ≤ 64 }
     ensures { result ≡ columns_at s.now c n }

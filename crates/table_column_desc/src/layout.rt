@@ -8,6 +8,7 @@ use bytes_at::Width;
 use table_rules::Layout;
 
 // Comment, data manager type and data manager group.
+#[inline(always)]
 pub fn skip_notes(s: &[u8], c: Cursor) -> Cursor
     ensures { result ≡ notes_at s.now c }
 {

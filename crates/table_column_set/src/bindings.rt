@@ -102,6 +102,7 @@ fn read_info(s: &[u8], c: Cursor, kind: Kind, n: usize) -> InfoRead
 
 // DMInfo of the managers.
 // The counts go as the array that `Owners` holds, which is promised to be at most 64 at every place.
+#[inline(never)] // as `table::describe` says
 pub fn read_infos(s: &[u8], c: Cursor, managers: &[Manager], counts: [usize; 16]) -> Infos
     requires { (length managers.now ≤ 16) × ((k : ℕ) → get_or counts k 0 ≤ 64) }
     ensures { result ≡ infos_at s.now c managers.now counts (length managers.now) }
@@ -153,6 +154,7 @@ fn read_binding(s: &[u8], owner: Owner, info: Option<Info>) -> Binding
 }
 
 // The bindings of the columns.
+#[inline(never)] // as `table::describe` says
 pub fn bind(s: &[u8], owners: &[Owner], infos: &[Option<Info>]) -> [Binding; 64]
     requires { length owners.now ≤ 64 }
     ensures { result ≡ bindings_at s.now owners.now infos.now (length owners.now) }

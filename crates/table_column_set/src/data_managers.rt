@@ -77,6 +77,7 @@ pub fn no_manager() -> Manager
 
 // n managers. A sequence number that an earlier manager has, or above the highest: 6.
 // `n ≤ 16` is the bound of a count alone: a type for it would say no more than the clause.
+#[inline(never)] // as `table::describe` says
 pub fn read_managers(s: &[u8], c: Cursor, n: usize, highest: usize) -> Managers
     requires { n ≤ 16 }
     ensures { result ≡ managers_at s.now c n highest }

@@ -38,6 +38,7 @@ fn skip_own_shape(s: &[u8], c: Cursor, array: bool) -> Cursor
 }
 
 // ColumnInfo of the columns. A sequence number that none of the managers has: 6.
+#[inline(never)] // as `table::describe` says
 pub fn read_owners(s: &[u8], c: Cursor, columns: &[Column], managers: &[Manager]) -> Owners
     requires { (length columns.now ≤ 64) × (length managers.now ≤ 16) }
     ensures value { result ≡ owners_at s.now c columns.now (length columns.now) managers.now (length managers.now) }

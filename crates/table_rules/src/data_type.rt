@@ -66,7 +66,7 @@ impl DataType {
     {
         let bare = self.bare_name();
         let mut name = [b' '; 8];
-        name[..bare.len()].copy_from_slice(bare);
+        bytes_at::copy(bare, 0, bare.len(), &mut name, 0);
         name
     }
 
