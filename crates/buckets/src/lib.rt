@@ -4,10 +4,20 @@
 pub mod file;
 pub mod marks;
 
+ghost use Rattle.std.specs.Prelude.{◌≡◌, ◌≤◌, ◌<◌, ◌+◌, ◌*◌};
 ghost use Rattle.buckets.specs.Area.{Area};
+ghost use Rattle.standard_rules.specs.Header.{bucket_start};
 
 // "-1": the link of a chain's last bucket.
 pub const NO_BUCKET: usize = 4294967295;
+
+// The first byte of bucket b of nb, in a file of len bytes.
+pub fn start_of(size: usize, nb: usize, b: usize, len: usize) -> usize
+    requires { (b < nb) × (512 + nb * size ≤ len) }
+    ensures { (result ≡ bucket_start size b) × (result + size ≤ len) }
+{
+    512 + b * size
+}
 
 // The buckets of a file, which all lie in it: their size in bytes and their number.
 #[derive(Clone, Copy)]
@@ -41,7 +51,7 @@ impl<'f> Buckets<'f> {
         requires { b < self.count }
         ensures { (result ≡ bucket_start self.entry.size b) × (result + self.entry.size ≤ length self.entry.file.now) }
     {
-        512 + b * self.size
+        start_of(self.size, self.count, b, self.file.len())
     }
 
     // Where the buckets end.

@@ -35,23 +35,20 @@ impl Marks {
         fresh
     }
 
-    // Marks the n buckets whose numbers stand in the text from `from` on, in a table of the endianness given.
+    // Marks the n buckets, of `count`, whose numbers stand in the text from `from` on, in a table of the endianness given.
     pub fn add_numbers(
         &mut self,
-        buckets: Buckets,
+        count: usize,
         text: &[u8],
         big: bool,
         from: usize,
         n: usize,
     ) -> bool
-        requires { from + n * 4 ≤ length text.now }
-        ensures { (result ≡ all_unmarked buckets.entry.count self.old.seen (numbers_at big 4 text.now from n)) × (result ≡ true → self.new.seen ≡ marked self.old.seen (numbers_at big 4 text.now from n)) }
+        requires { (count ≤ 4096) × (from + n * 4 ≤ length text.now) }
+        ensures { (result ≡ all_unmarked count self.old.seen (numbers_at big 4 text.now from n)) × (result ≡ true → self.new.seen ≡ marked self.old.seen (numbers_at big 4 text.now from n)) }
     {
         for i in 0..n {
-            if !self.add(
-                buckets.count,
-                bytes_at::uint_there::<4>(text, from + i * 4, big),
-            ) {
+            if !self.add(count, bytes_at::uint_there::<4>(text, from + i * 4, big)) {
                 return false;
             }
         }

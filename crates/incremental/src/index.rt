@@ -18,7 +18,7 @@ pub fn buckets_apart(b: Buckets, big: bool, from: usize, n: usize, k: usize, fir
     ensures { result ≡ all_apart b.entry.count (numbers_at big 4 b.entry.file.now from n ++ links b.entry.file.now b.entry.size k first) }
 {
     let mut marks = Marks::none();
-    marks.add_numbers(b, b.file, big, from, n) && marks.add_chain(b, k, first)
+    marks.add_numbers(b.count, b.file, big, from, n) && marks.add_chain(b, k, first)
 }
 
 // Whether the n + 1 first rows that stand in the file from a place on begin with 0, rise strictly and end at the row count.

@@ -40,7 +40,7 @@ fn mark_sets(seen: &mut Marks, buckets: Buckets, text: &[u8], big: bool, sets: &
     ensures { (result ≡ all_unmarked buckets.entry.count seen.old.seen (data_of (map (map_set big text.now) sets.now))) × (result ≡ true → seen.new.seen ≡ marked seen.old.seen (data_of (map (map_set big text.now) sets.now))) }
 {
     for s in sets {
-        if !seen.add_numbers(buckets, text, big, s.buckets, s.entries) {
+        if !seen.add_numbers(buckets.count, text, big, s.buckets, s.entries) {
             return false;
         }
     }

@@ -6,4 +6,4 @@ use Rattle.buckets.proofs.marks.Marks.add_numbers.Given as goal
 
 abbrev pub invariant-loop-i : goal.invariant-loop-i
 invariant-loop-i l =
-    Marking l.buckets.count l.initial.self.seen (numbers_at l.big 4 l.text l.from l.n) l.self.seen (numbers_at l.big 4 l.text (l.from + l.i * 4) (l.n - l.i))
+    Marking l.count l.initial.self.seen (numbers_at l.big 4 l.text l.from l.n) l.self.seen (numbers_at l.big 4 l.text (l.from + l.i * 4) (l.n - l.i))
