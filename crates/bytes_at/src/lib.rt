@@ -131,7 +131,7 @@ pub fn rest(s: &[u8], start: usize) -> &[u8]
 }
 
 // Copies n bytes of src from `from` into dst at `at`.
-// By index, and no `copy_from_slice`: that takes `memmove` from whoever links the archive for C, and this takes no new name.
+// By index, and no `copy_from_slice`: that took `memmove` here from whoever links the archive for C, and this takes no new name.
 pub fn copy(src: &[u8], from: usize, n: usize, dst: &mut [u8], at: usize)
     requires { (from + n ≤ length src.now) × (at + n ≤ length dst.old) }
     ensures { dst.new ≡ paste dst.old at (drop from src.now) n }

@@ -62,6 +62,8 @@ fn walk_set(s: &[u8], path: &[u8], sought: Sought, start: usize) -> Walked
 }
 
 // What the path leads to in the keyword set that begins at a place.
+// Not put in place, so that the walk is off the stack while `set_start` has the description on it.
+#[inline(never)]
 fn search_set(s: &[u8], path: &[u8], sought: Sought, start: usize) -> Result<Field, Refusal>
     ensures { result ≡ search_at s.now path.now sought start }
 {

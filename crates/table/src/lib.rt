@@ -67,7 +67,7 @@ fn refuse(why: Refusal) -> Description
 
 // What the bytes of table.dat describe.
 // What reads its lists (`read_columns`, `read_managers`, `read_owners`, `read_infos`, `bind`) is not put in place here: the lists would lie on
-// this function's stack twice and more, and be copied as often.
+// this function's stack twice and more, and be copied as often. Nor is it put in place itself, where a description is asked for.
 #[inline(never)]
 pub fn describe(s: &[u8]) -> Description
     ensures value { result ≡ described_as s.now }
